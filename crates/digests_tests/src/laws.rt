@@ -194,11 +194,8 @@ pub fn e_in_memory(alloc: Global) -> Result<(u8, ToldSink<64>), NoRoom>
     source.add(b"e", Answer::Content(b"", Ending::Whole))?;
     let stdin = Stdin::new(Told::new(b"", Ending::Whole, 1));
     let inputs = WithStdin::new(stdin, source);
-    let mut streams: Streams<
-        WithStdin<Told, ToldSource<Global>>,
-        ToldSink<64>,
-        ToldSink<64>,
-    > = Streams::new(inputs, ToldSink::new(64), ToldSink::new(64));
+    let mut streams: Streams<WithStdin<Told, ToldSource<Global>>, ToldSink<64>, ToldSink<64>> =
+        Streams::new(inputs, ToldSink::new(64), ToldSink::new(64));
     let words: [&[u8]; 2] = [b"md5sum", b"e"];
     let mut arguments = ToldArguments::new(&words);
     with_stdin_tells();
