@@ -138,12 +138,11 @@ class Reasons(Case):
 
     def test_table(self):
         """The definitions have just the C library's texts, and the code is proved to have the
-        definitions'. A line of the table that ends with a number begins with the text of that
-        number."""
+        definitions'. Each line of the table ends with the number whose text is its first."""
         definitions = text_of("crates", "sum_sources", "specs", "Fault.antt")
         found = []
-        for line in re.search(r"(?s)\nreason_table = .*?\n(.*?)\n\n", definitions)[1].splitlines():
-            self.assertIn(line.partition("  -- ")[2], ("", str(len(found))))
+        for line in re.search(r"(?s)\nreason_table = (.*?)\n\n", definitions)[1].splitlines():
+            self.assertEqual(line.partition("  -- ")[2], str(len(found)))
             found += re.findall(r'"(.*?)" ∷', line)
         self.assertEqual(
             {number: text.encode() for number, text in enumerate(found) if text}
