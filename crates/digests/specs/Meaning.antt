@@ -37,7 +37,7 @@ meaning tool words world = request_behavior tool (request tool words) world
 abbrev pub status_of : Bool → ℕ
 status_of good = if good then 0 else 1
 
--- how often the source may have been refused memory, if a request ends out of memory: once, or at most once in a check
+-- how often the source may have been refused memory, if a request ends out of memory; with no number it never does
 abbrev pub allowed_refusals : Result Request WordFaultValue → List ℕ
 allowed_refusals (Ok (Generate settings names)) = 1 ∷ []
 allowed_refusals (Ok (Check settings names)) = 0 ∷ 1 ∷ []

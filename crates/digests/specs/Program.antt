@@ -48,7 +48,7 @@ abbrev pub CommandPerforms : Option (Tool × List ByteString) → StreamsState �
 CommandPerforms None = CallRefuses unknown_tool_line
 CommandPerforms (Some (tool, words)) = CallPerforms (Some tool) (Performs (meaning tool words) status_of)
 
--- THE PROGRAM, for each list of arguments that agrees. The call does what it asks for, or refuses it if it needs memory
+-- THE PROGRAM, for each list of arguments that agrees: the call does what it asks, or refuses a list that needs memory
 abbrev pub ProgramPerforms : ArgumentsState → StreamsState → StreamsState → ℕ → Type 0
 ProgramPerforms given before after status = (arguments : List ByteString) → FitsArguments given arguments
     → CommandPerforms (command_line arguments) before after status
