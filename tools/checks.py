@@ -75,11 +75,17 @@ def texts_after(edit, crate):
 
 
 def groups_of(crate, twins):
-    """Returns the twins of a crate in groups, each of which fits into one edit, by their names."""
+    """Returns the twins of a crate in groups, each of which fits into one edit, by their names. No
+    two of a group write a function of the same name."""
+
+    def functions(edit):
+        return {*re.findall(r"\bfn (\w+)", "".join(re.findall("(?m)^new: .*", edit)))}
 
     def has_room(group, edit):
-        joined = "".join(group.values()) + edit
-        return len(group) < TWINS_IN_A_CHECK and texts_after(joined, crate)
+        joined = "".join(group.values())
+        if len(group) == TWINS_IN_A_CHECK or functions(joined) & functions(edit):
+            return False
+        return texts_after(joined + edit, crate)
 
     groups = []
     for name, edit in twins.items():

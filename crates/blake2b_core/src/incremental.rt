@@ -1,9 +1,8 @@
 //! The digest of a message that comes in pieces.
 ghost use Rattle.blake2b_core.specs.Digest.{IsDigestLen};
-ghost use Rattle.blake2b_core.specs.declared.incremental.TheConstants.{LIMIT};
-ghost use Rattle.blake2b_core.specs.declared.one_shot.TheConstants.{BLOCK};
-ghost use Rattle.std.specs.Prelude.{◌≡◌, ◌↔◌, ◌+◌, ◌-◌, ◌<◌, ◌≤◌, [], ◌++◌};
-ghost use Rattle.std.specs.Prelude.{length, take, IsSome, IfSome, IsOk, OnOk, OnErr};
+ghost use Rattle.blake2b_core.specs.declared.{incremental.TheConstants.LIMIT, one_shot.TheConstants.BLOCK};
+ghost use Rattle.std.specs.Prelude.{◌≡◌, ◌↔◌, ◌+◌, ◌-◌, ◌<◌, ◌≤◌, [], ◌++◌, length, take, IsSome, IfSome, IsOk, OnOk};
+ghost use Rattle.std.specs.Prelude.{OnErr};
 
 use crate::compression::compress;
 use crate::one_shot::{BLOCK, followed_blocks, initial, padded_block, state_after};
@@ -49,8 +48,7 @@ pub struct Blake2b {
 
 impl Blake2b {
     ghost use Rattle.blake2b_core.specs.Blake2b.{HasTaken, HoldsSoFar, digest_len, taken_count};
-    ghost use Rattle.blake2b_core.specs.Bytes.{ByteString};
-    ghost use Rattle.blake2b_core.specs.Digest.{blake2b};
+    ghost use Rattle.blake2b_core.specs.{Bytes.ByteString, Digest.blake2b};
 
     /// Creates the state of the empty message, for a digest of `len` bytes. Returns `None` if and only if `len` is 0 or
     /// over 64.

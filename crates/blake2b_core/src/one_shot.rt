@@ -1,7 +1,6 @@
 //! The digest of a whole message (RFC 7693, 3.3).
-ghost use Rattle.blake2b_core.specs.Bytes.{ByteString};
-ghost use Rattle.blake2b_core.specs.Digest.{IsDigestLen, count_before_last, blake2b, hash_after, HasBlocksFrom};
-ghost use Rattle.blake2b_core.specs.declared.one_shot.TheConstants.{BLOCK};
+ghost use Rattle.blake2b_core.specs.{Bytes.ByteString, Digest.IsDigestLen, Digest.count_before_last, Digest.blake2b};
+ghost use Rattle.blake2b_core.specs.{Digest.hash_after, Digest.HasBlocksFrom, declared.one_shot.TheConstants.BLOCK};
 ghost use Rattle.std.specs.Prelude.{◌≡◌, ◌↔◌, ℕ, ◌+◌, ◌-◌, ◌*◌, ◌^◌, ◌<◌, ◌≤◌, ◌++◌, length, replicate, IsSome, IfSome};
 ghost use Rattle.std.specs.Simd.{first_chunks};
 

@@ -14,8 +14,7 @@ pub struct Output {
 }
 
 impl Model for Output {
-    ghost use Rattle.blake2b_core.specs.Bytes.{ByteString};
-    ghost use Rattle.blake2b_core.specs.Digest.{IsDigestLen};
+    ghost use Rattle.blake2b_core.specs.{Bytes.ByteString, Digest.IsDigestLen};
     ghost use Rattle.std.specs.Prelude.{take};
 
     ghost Value = { ByteString };

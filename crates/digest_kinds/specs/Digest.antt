@@ -1,5 +1,5 @@
 -- The digits of a digest.
-use Rattle.std.specs.{Prelude.◌≡◌, Prelude.◌%◌, Prelude.◌≤◌, Prelude.length, List.AllPass}
+use Rattle.std.specs.{List.AllPass, Prelude.◌≡◌, Prelude.◌%◌, Prelude.◌≤◌, Prelude.length}
 use Rattle.hex.specs.Hex.{is_hex_digit}
 use Rattle.digest_kinds.specs.Bytes.{ByteString}
 

@@ -1,5 +1,6 @@
 pub mod Bytes
 pub mod Algo
 pub mod Kind
+pub mod KindText
 pub mod Digest
-pub mod AnyHasher
+pub mod hashers

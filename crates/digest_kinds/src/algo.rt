@@ -1,8 +1,7 @@
 //! The algorithms and their tags.
 
 ghost use Rattle.digest_kinds.specs.Algo.{all_algos, full_len, tag, BeginsWithTag};
-ghost use Rattle.std.specs.Fmt.{styled_text};
-ghost use Rattle.std.specs.List.{starts_with};
+ghost use Rattle.std.specs.{Fmt.styled_text, List.starts_with};
 ghost use Rattle.std.specs.Prelude.{◌≡◌, ◌==◌, Some, IfSome, Ok, IfOk, find};
 
 use std::fmt;

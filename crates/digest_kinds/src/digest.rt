@@ -109,9 +109,7 @@ impl FromStr for Digest {
 
 impl PartialEq for Digest {
     ghost use Rattle.std.proofs.Common.{rules};
-    ghost use Rattle.std.specs.Cmp.Lexicographic.{pointwise};
-    ghost use Rattle.std.specs.Cmp.Rules.{comparing};
-    ghost use Rattle.std.specs.Prelude.{◌==◌};
+    ghost use Rattle.std.specs.{Cmp.Lexicographic.pointwise, Cmp.Rules.comparing, Prelude.◌==◌};
 
     ghost eq = { pointwise ◌==◌ };
 
@@ -123,16 +121,14 @@ impl PartialEq for Digest {
 }
 
 impl Eq for Digest {
-    ghost use Rattle.std.proofs.Common.{rules};
-    ghost use Rattle.std.specs.Cmp.Rules.{comparing};
+    ghost use Rattle.std.{proofs.Common.rules, specs.Cmp.Rules.comparing};
 
     ghost laws = { Prim.search (comparing, rules) };
 }
 
 impl PartialOrd for Digest {
     ghost use Rattle.std.specs.Cmp.Lexicographic.{slice_cmp, texts_po};
-    ghost use Rattle.std.specs.Ordering.{nat_cmp};
-    ghost use Rattle.std.specs.Prelude.{Some};
+    ghost use Rattle.std.specs.{Ordering.nat_cmp, Prelude.Some};
 
     ghost partial_cmp = { λ d e. Some (slice_cmp nat_cmp d e) };
 
@@ -145,8 +141,7 @@ impl PartialOrd for Digest {
 
 impl Ord for Digest {
     ghost use Rattle.std.specs.Cmp.Lexicographic.{nat_list_cmp_total, slice_cmp, texts_ties};
-    ghost use Rattle.std.specs.Ordering.{nat_cmp};
-    ghost use Rattle.std.specs.Prelude.{refl};
+    ghost use Rattle.std.specs.{Ordering.nat_cmp, Prelude.refl};
 
     ghost cmp = { slice_cmp nat_cmp };
 
@@ -163,8 +158,7 @@ impl Ord for Digest {
 }
 
 impl Hash for Digest {
-    ghost use Rattle.std.proofs.Common.{rules};
-    ghost use Rattle.std.specs.Cmp.Rules.{hashing};
+    ghost use Rattle.std.{proofs.Common.rules, specs.Cmp.Rules.hashing};
     ghost use Rattle.std.specs.Hash as fed;
 
     ghost hash_input = { fed.slice fed.u8 };
@@ -186,8 +180,7 @@ impl AsSlice<u8> for Digest {
 }
 
 impl fmt::Display for Digest {
-    ghost use Rattle.std.specs.Fmt.{styled_text};
-    ghost use Rattle.std.specs.Prelude.{Some};
+    ghost use Rattle.std.specs.{Fmt.styled_text, Prelude.Some};
 
     ghost output = { λ d. Some (encode_lower d) };
 

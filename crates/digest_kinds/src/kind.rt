@@ -1,8 +1,7 @@
 //! An algorithm with its digest's length.
 
 ghost use Rattle.blake2b_core.specs.Digest.{IsDigestLen};
-ghost use Rattle.digest_kinds.specs.Algo.{tag};
-ghost use Rattle.digest_kinds.specs.Bytes.{LIMIT};
+ghost use Rattle.digest_kinds.specs.{Algo.tag, Bytes.LIMIT};
 ghost use Rattle.digest_kinds.specs.Kind.{blake2b_kind, full_kind, blake2b_of_bits, digest};
 ghost use Rattle.std.specs.Prelude.{◌≡◌, ◌↔◌, ◌*◌, ◌<◌, length, IsSome, IfSome};
 
@@ -31,8 +30,7 @@ pub struct Kind {
 }
 
 impl Model for Kind {
-    ghost use Rattle.digest_kinds.specs.Algo.{has_len};
-    ghost use Rattle.digest_kinds.specs.Kind.{KindValue};
+    ghost use Rattle.digest_kinds.specs.{Algo.has_len, Kind.KindValue};
     ghost use Rattle.std.specs.Prelude.{IsTrue};
 
     ghost Value = { KindValue };

@@ -1,13 +1,9 @@
 //! The texts that name kinds, such as `SHA256` and `BLAKE2b-256`.
 
-ghost use Rattle.digest_kinds.specs.Algo.{BeginsWithTag, tag};
-ghost use Rattle.digest_kinds.specs.Bytes.{after_while};
-ghost use Rattle.digest_kinds.specs.Kind.{NamesKind, kind_and_rest, kind_of_digits, kind_text, short_number, KindValue};
+ghost use Rattle.digest_kinds.specs.{Algo.BeginsWithTag, Algo.tag, Bytes.after_while, Kind.KindValue};
+ghost use Rattle.digest_kinds.specs.KindText.{NamesKind, kind_and_rest, kind_of_digits, kind_text, short_number};
 ghost use Rattle.digest_kinds.specs.declared.kind_text.TheConstants.{LONGEST_KIND_TEXT};
-ghost use Rattle.std.specs.Char.{is_ascii_digit};
-ghost use Rattle.std.specs.Fmt.{styled_text};
-ghost use Rattle.std.specs.List.{AllPass, prefix_len};
-ghost use Rattle.std.specs.Option.{option_map};
+ghost use Rattle.std.specs.{Char.is_ascii_digit, Fmt.styled_text, List.AllPass, List.prefix_len, Option.option_map};
 ghost use Rattle.std.specs.Prelude.{◌≡◌, ◌≤◌, ◌++◌, codes, decimal, length, take, drop, take_while, Some, Ok, IfOk};
 
 use crate::algo::Algo;

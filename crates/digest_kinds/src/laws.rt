@@ -1,7 +1,7 @@
 //! Laws of tags and of the texts of kinds. Each is the contract of a function that does nothing.
 
 ghost use Rattle.digest_kinds.specs.Algo.{Algo, BeginsWithTag, has_len, tag};
-ghost use Rattle.digest_kinds.specs.Kind.{NamesKind, kind_text, KindValue};
+ghost use Rattle.digest_kinds.specs.{Kind.KindValue, KindText.NamesKind, KindText.kind_text};
 ghost use Rattle.std.specs.Prelude.{◌≡◌, IsTrue};
 
 /// No algorithm's tag is a prefix of another's.

@@ -1,10 +1,9 @@
 //! What the contracts of hashers, of kinds and of algorithms give a caller.
 ghost use Rattle.blake2b_core.specs.Blake2b.{HasTaken, digest_len, taken_count};
 ghost use Rattle.blake2b_core.specs.Digest.{IsDigestLen, blake2b};
-ghost use Rattle.digest_kinds.specs.Bytes.{ByteString, LIMIT};
-ghost use Rattle.digest_kinds.specs.Kind.{digest};
-ghost use Rattle.std.specs.Prelude.{◌≡◌, ◌↔◌, ◌+◌, ◌<◌, ◌++◌, if◌then◌else◌};
-ghost use Rattle.std.specs.Prelude.{length, take, slice_get, nat_lt, Some, Ok, IsSome, IfSome};
+ghost use Rattle.digest_kinds.specs.{Bytes.ByteString, Bytes.LIMIT, Kind.digest};
+ghost use Rattle.std.specs.Prelude.{◌≡◌, ◌↔◌, ◌+◌, ◌<◌, ◌++◌, if◌then◌else◌, length, take, slice_get, nat_lt, Some, Ok};
+ghost use Rattle.std.specs.Prelude.{IsSome, IfSome};
 
 use blake2b_core::{Blake2b, Output};
 use digest_kinds::{Algo, Digest, Hasher, Kind, UnknownTag};

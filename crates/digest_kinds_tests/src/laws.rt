@@ -1,7 +1,6 @@
 //! What follows from the laws of digests, tags and kinds.
 ghost use Rattle.byteorder.specs.Endian.{big_bytes};
-ghost use Rattle.digest_kinds.specs.Algo.{tag};
-ghost use Rattle.digest_kinds.specs.declared.algo.Algo.{Algo};
+ghost use Rattle.digest_kinds.specs.{Algo.tag, declared.algo.Algo.Algo};
 ghost use Rattle.std.specs.Prelude.{◌≡◌, ◌++◌, Ok};
 
 use blake2b_core::{Output, blake2b};

@@ -1,17 +1,15 @@
 -- A run and its end, joined: what the whole program does.
-use Rattle.std.proofs.Common.{arith, ℕ, List, [], ◌∷◌, ◌++◌, Option, None, Result, Ok, Err, false, refl, ◌∙◌, append_assoc, append-nil}
+use Rattle.std.proofs.Common.{arith, ℕ, List, [], ◌∷◌, ◌++◌, Option, None, Result, Ok, Err, false, refl, ◌∙◌}
+use Rattle.std.proofs.Common.{append_assoc, append-nil}
+use Rattle.sum_engine.proofs.{ExecutionLemmas.Happened-then, ExecutionLemmas.step_performed, WorldLemmas.asks_none}
 use Rattle.sum_engine.specs.Behavior.{World, Step, Behavior, trace, single_step}
-use Rattle.digest_kinds.specs.Bytes.{ByteString}
-use Rattle.sum_engine.specs.Streams.{BothOutputs, StreamsState, FailuresMatch}
 use Rattle.sum_engine.specs.Execution.{world_at, Performs, PerformsSteps}
-use Rattle.sum_engine.specs.Streams.{WritesBoth, WritesAndReturns}
-use Rattle.sum_settings.specs.declared.{stop.Stop.TheVariants.Memory, stop.Stop.TheVariants.Write}
-use Rattle.sum_engine.proofs.{WorldLemmas.asks_none, ExecutionLemmas.Happened-then, ExecutionLemmas.step_performed}
-use Rattle.sum_settings.specs.declared.stop.Stop.{Stop}
+use Rattle.sum_engine.specs.Streams.{BothOutputs, StreamsState, FailuresMatch, WritesBoth, WritesAndReturns}
+use Rattle.digest_kinds.specs.Bytes.{ByteString}
+use Rattle.sum_settings.specs.declared.stop.Stop.{Stop, TheVariants.Memory, TheVariants.Write}
 use Rattle.sum_words.specs.declared.tool.Tool.{Tool}
-use Rattle.digests.specs.{Meaning.status_of, Program.CallPerforms, Program.CallRefuses}
-use Rattle.digests.specs.private.Finish.{FinishesRun, Refuses}
-use Rattle.digests.proofs.MessageLemmas.{Performs-texts}
+use Rattle.digests.{proofs.MessageLemmas.Performs-texts, specs.Meaning.status_of}
+use Rattle.digests.specs.{Program.CallPerforms, Program.CallRefuses, private.Finish.FinishesRun, private.Finish.Refuses}
 
 -- a run that returned is still performed once both outputs were given an empty text, or it failed after all events
 Performs-flushed : (run : World → Behavior) (a b : StreamsState) (outputs : BothOutputs) (x : ℕ)

@@ -2,10 +2,9 @@
 use Rattle.std.specs.Prelude.{ℕ, ◌≡◌, ◌⊎◌, List, Option, None, Some, Result, Ok}
 use Rattle.digest_kinds.specs.Bytes.{ByteString}
 use Rattle.sum_settings.specs.declared.stop.Stop.{Stop}
-use Rattle.sum_sources.specs.Source.{Answers, ToldAnswers, TellsAll}
-use Rattle.sum_engine.specs.Behavior.{World}
-use Rattle.sum_engine.specs.Streams.{StreamsState}
-use Rattle.sum_engine.specs.Execution.{opened_names, ReadsToEndIf, PerformsSteps, Performs}
+use Rattle.sum_sources.specs.sources.Source.{Answers, ToldAnswers, TellsAll}
+use Rattle.sum_engine.specs.{Behavior.World, Execution.opened_names, Execution.ReadsToEndIf, Execution.PerformsSteps}
+use Rattle.sum_engine.specs.{Execution.Performs, Streams.StreamsState}
 use Rattle.sum_words.specs.{Arguments.ArgumentsState, CommandLine.command_line, CommandLine.NeedsMemory}
 use Rattle.sum_words.specs.declared.tool.Tool.{Tool}
 use Rattle.digests.specs.Meaning.{meaning, status_of}

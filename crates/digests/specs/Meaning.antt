@@ -3,10 +3,10 @@ use Rattle.std.specs.Prelude.{ℕ, Bool, true, false, List, [], ◌∷◌, Resul
 use Rattle.digest_kinds.specs.Bytes.{ByteString}
 use Rattle.sum_engine.specs.Behavior.{World, world_after, Behavior, behavior_then, single_step, asks}
 use Rattle.sum_engine.specs.{Generate.generate_behavior, check.CheckOne.check_behavior}
-use Rattle.sum_words.specs.declared.{tool.Tool.Tool, parsing.request.Request.Request}
+use Rattle.sum_words.specs.{Tool.name_of, declared.parsing.request.Request.Request}
 use Rattle.sum_words.specs.declared.parsing.request.Request.TheVariants.{Generate, Check, Help, Version}
-use Rattle.sum_words.specs.{Tool.name_of, parsing.Request.request, parsing.WordFault.WordFaultValue}
-use Rattle.sum_words.specs.messages.{FaultLines.fault_lines, Help.help, Help.version}
+use Rattle.sum_words.specs.{declared.tool.Tool.Tool, messages.FaultLines.fault_lines, messages.Help.help}
+use Rattle.sum_words.specs.{messages.Help.version, parsing.Request.request, parsing.WordFault.WordFaultValue}
 
 -- the behavior of names, one after another. Each begins in the world that the earlier ones leave
 abbrev pub operands_behavior : (World → ByteString → Behavior) → World → List ByteString → Behavior

@@ -3,12 +3,12 @@ use Rattle.std.specs.Prelude.{ℕ, ◌≡◌, ◌⊎◌, false, List, [], ◌++�
 use Rattle.std.specs.Prelude.{unwrap_or}
 use Rattle.digest_kinds.specs.Bytes.{ByteString}
 use Rattle.sum_settings.specs.declared.stop.Stop.{Stop, TheVariants.Memory, TheVariants.Write}
-use Rattle.sum_lines.specs.Output.{OutputState, GivesAll}
-use Rattle.sum_sources.specs.Source.{Pair}
-use Rattle.sum_engine.specs.Behavior.{single_step}
-use Rattle.sum_engine.specs.{Streams.BothOutputs, Streams.StreamsState, Streams.FailuresMatch, Execution.Performs}
-use Rattle.sum_words.specs.{Arguments.ArgumentsState, Arguments.FitsArguments, declared.tool.Tool.Tool}
-use Rattle.sum_words.specs.{CommandLine.command_line, CommandLine.NeedsMemory, Tool.name_of}
+use Rattle.sum_lines.specs.sinks.Output.{OutputState, GivesAll}
+use Rattle.sum_sources.specs.sources.Source.{Pair}
+use Rattle.sum_engine.specs.{Behavior.single_step, Execution.Performs}
+use Rattle.sum_engine.specs.Streams.{BothOutputs, StreamsState, FailuresMatch}
+use Rattle.sum_words.specs.Arguments.{ArgumentsState, FitsArguments}
+use Rattle.sum_words.specs.{CommandLine.command_line, CommandLine.NeedsMemory, Tool.name_of, declared.tool.Tool.Tool}
 use Rattle.digests.specs.Meaning.{meaning, status_of}
 
 -- the line for an unknown or missing tool

@@ -1,7 +1,5 @@
 //! The whole program, from the list of its arguments to its exit status.
-ghost use Rattle.digests.specs.Program.{ProgramPerforms};
-ghost use Rattle.digests.specs.private.Finish.{Refuses};
-ghost use Rattle.digests.specs.private.Messages.{message_text};
+ghost use Rattle.digests.specs.{Program.ProgramPerforms, private.Finish.Refuses, private.Messages.message_text};
 ghost use Rattle.std.specs.Prelude.{◌≡◌, []};
 ghost use Rattle.sum_engine.specs.{Execution.ReadsToEndIf, Streams.failures};
 

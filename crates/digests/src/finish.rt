@@ -1,9 +1,8 @@
 //! The end of a run: both outputs are flushed once more, and a stop is reported in a line.
-ghost use Rattle.digests.specs.Program.{stop_line};
-ghost use Rattle.digests.specs.private.Finish.{FinishesRun, FlushesBoth};
+ghost use Rattle.digests.specs.{Program.stop_line, private.Finish.FinishesRun, private.Finish.FlushesBoth};
 ghost use Rattle.std.specs.Prelude.{◌≡◌, Ok};
 ghost use Rattle.sum_engine.specs.Streams.{failures};
-ghost use Rattle.sum_lines.specs.Output.{GivesAll};
+ghost use Rattle.sum_lines.specs.sinks.Output.{GivesAll};
 
 use crate::messages::Message;
 use sum_engine::{Outputs, Stop};

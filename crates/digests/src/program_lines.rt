@@ -1,10 +1,8 @@
 //! The lines of the program itself: for a stop, for an unknown tool, and for words that could not be read.
 ghost use Rattle.digests.specs.Program.{stop_line, unknown_tool_line, not_read_line};
 ghost use Rattle.std.specs.Prelude.{◌≡◌, ◌++◌, Some};
-ghost use Rattle.sum_lines.specs.Buffered.{WritesAll};
-ghost use Rattle.sum_lines.specs.Parts.{part_text};
-ghost use Rattle.sum_words.specs.Tool.{name_of};
-ghost use Rattle.sum_words.specs.declared.tool.Tool.{Tool};
+ghost use Rattle.sum_lines.specs.{sinks.Buffered.WritesAll, writing.Parts.part_text};
+ghost use Rattle.sum_words.specs.{Tool.name_of, declared.tool.Tool.Tool};
 
 use sum_engine::Stop;
 use sum_lines::{Buffered, Part, Sink, SinkFault, put_all, put_parts};

@@ -1,9 +1,8 @@
 //! The program over what the system gives it. `main` calls nothing else of ours.
 ghost use Rattle.digests.specs.Program.{ProgramPerforms, fresh_streams};
 ghost use Rattle.std.specs.Prelude.{ℕ, suc, All, ◌≡◌, Ok, codes};
-ghost use Rattle.sum_engine.specs.Behavior.{World};
-ghost use Rattle.sum_engine.specs.{Execution.Agrees, Execution.ReadsFile, Streams.failures};
-ghost use Rattle.sum_sources.specs.Input.{empty_content};
+ghost use Rattle.sum_engine.specs.{Behavior.World, Execution.Agrees, Execution.ReadsFile, Streams.failures};
+ghost use Rattle.sum_sources.specs.inputs.Input.{empty_content};
 ghost use Rattle.sum_words.specs.SystemArguments.{system_arguments_state};
 
 use crate::command_run::command;

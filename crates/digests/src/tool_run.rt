@@ -3,10 +3,9 @@ ghost use Rattle.digests.specs.Meaning.{operands_behavior, request_behavior, nam
 ghost use Rattle.digests.specs.Meaning.{allowed_refusals};
 ghost use Rattle.digests.specs.private.ToolRun.{operand_behavior, job_refusals};
 ghost use Rattle.std.specs.Prelude.{◌≡◌, ◌∷◌, true, Ok};
-ghost use Rattle.sum_engine.specs.Streams.{FailuresMatch, RefusalsMatch, StopHasCause};
 ghost use Rattle.sum_engine.specs.Execution.{ReadsToEndIf, Performs};
-ghost use Rattle.sum_words.specs.parsing.{Request.request, WordFault.result_value};
-ghost use Rattle.sum_words.specs.Tool.{name_of};
+ghost use Rattle.sum_engine.specs.Streams.{FailuresMatch, RefusalsMatch, StopHasCause};
+ghost use Rattle.sum_words.specs.{Tool.name_of, parsing.Request.request, parsing.WordFault.result_value};
 
 use crate::messages::Message;
 use std::alloc::Allocator;

@@ -1,20 +1,18 @@
 //! What the laws say of one tool and of one or two names. Each of these functions is there for its contract.
-ghost use Rattle.digests.specs.GenerationRuns.{HasFiles, IsListable};
-ghost use Rattle.digests.specs.Meaning.{meaning, status_of};
+ghost use Rattle.digests.specs.{GenerationRuns.HasFiles, GenerationRuns.IsListable, Meaning.meaning, Meaning.status_of};
 ghost use Rattle.std.specs.Prelude.{All, ◌≡◌, ◌≢◌, ◌<◌, ◌∷◌, ◌++◌, [], Ok, Err, IfOk, Some, codes, length};
-ghost use Rattle.sum_sources.specs.{Input.Reads, declared.fault.Ending.TheVariants.Whole};
+ghost use Rattle.sum_sources.specs.declared.fault.Ending.TheVariants.{Whole};
+ghost use Rattle.sum_sources.specs.declared.inputs.input.Phase.TheVariants.{Ended as EndedBy};
+ghost use Rattle.sum_sources.specs.inputs.Input.{Reads, empty_content, limit};
+ghost use Rattle.sum_sources.specs.sources.Source.{AnswerValue as AnswerValue, Answers, TellsAll};
 ghost use Rattle.sum_engine.specs.Behavior.{World, answer_to, out_text, err_text};
-ghost use Rattle.sum_engine.specs.Streams.{failures};
-ghost use Rattle.sum_engine.specs.check.Report.{out_by};
+ghost use Rattle.sum_engine.specs.{Streams.failures, check.Report.out_by};
 ghost use Rattle.sum_engine.specs.declared.check.judge.Verdict.TheVariants.{Right};
 ghost use Rattle.sum_settings.specs.declared.settings.Report.TheVariants.{All as AllReports};
 ghost use Rattle.sum_settings.specs.declared.stop.Stop.TheVariants.{Memory};
-ghost use Rattle.sum_sources.specs.Input.{empty_content, limit};
-ghost use Rattle.sum_sources.specs.Source.{AnswerValue as AnswerValue, Answers, TellsAll};
-ghost use Rattle.sum_sources.specs.declared.inputs.input.Phase.TheVariants.{Ended as EndedBy};
 ghost use Rattle.sum_words.specs.Arguments.{FitsArguments};
-ghost use Rattle.digest_kinds.specs.Bytes.{ByteString};
 ghost use Rattle.sum_words.specs.declared.tool.Tool.TheVariants.{Md5sum, Sha256sum, Anysum};
+ghost use Rattle.digest_kinds.specs.Bytes.{ByteString};
 
 use digests::laws::{joined_is_good, told_performs, told_program_performs, written_is_good};
 use digests::{Finished, SystemStreams, command, program, run};

@@ -1,6 +1,6 @@
 //! Tests of the run and of the program, over known input and known files, into known sinks.
 ghost use Rattle.std.specs.Prelude.{◌≡◌};
-ghost use Rattle.sum_sources.specs.Input.{empty_reads};
+ghost use Rattle.sum_sources.specs.inputs.Input.{empty_reads};
 
 mod growths;
 mod hostile;

@@ -1,6 +1,6 @@
 //! An input of one's own: the bytes of a reader.
 ghost use Rattle.std.specs.Prelude.{◌≡◌};
-ghost use Rattle.sum_sources.specs.Input.{no_reads};
+ghost use Rattle.sum_sources.specs.inputs.Input.{no_reads};
 
 use std::io::Read;
 use sum_sources::{Fault, Input, InputCalls, InputLog, ReadNote};
@@ -25,7 +25,7 @@ impl<R: Read> Bytes<R> {
 
 impl<R: Read> Input for Bytes<R> {
     ghost use Rattle.std.specs.Prelude.{None};
-    ghost use Rattle.sum_sources.specs.InputLaws.{untold_has_content};
+    ghost use Rattle.sum_sources.specs.inputs.InputLaws.{untold_has_content};
 
     ghost state = { λ s. record s.log { told = None } };
 

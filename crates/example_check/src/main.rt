@@ -2,8 +2,7 @@
 //! status is 0 only if the manifest is good.
 #![tactic(auto)]
 
-ghost use Rattle.digest_kinds.specs.declared.algo.Algo.TheVariants.{Sha256};
-ghost use Rattle.digest_kinds.specs.declared.algo.Algos.TheVariants.{One};
+ghost use Rattle.digest_kinds.specs.declared.algo.{Algo.TheVariants.Sha256, Algos.TheVariants.One};
 ghost use Rattle.std.specs.Prelude.{◌≡◌, true, false};
 ghost use Rattle.sum_settings.specs.declared.settings.Report.TheVariants.{All};
 

@@ -1,8 +1,7 @@
 //! Says whether a message has a digest that is known in digits.
 #![tactic(auto)]
 
-ghost use Rattle.digest_kinds.specs.Bytes.{LIMIT};
-ghost use Rattle.digest_kinds.specs.{Digest.IsDigits, Kind.digest};
+ghost use Rattle.digest_kinds.specs.{Bytes.LIMIT, Digest.IsDigits, Kind.digest};
 ghost use Rattle.hex.specs.Hex.{decode_of};
 ghost use Rattle.std.specs.Prelude.{◌≡◌, ◌<◌, ◌↔◌, IsTrue, Ok, length};
 

@@ -1,7 +1,7 @@
 //! Prints the SHA-256 digest of the file `abc`.
 #![tactic(auto)]
 
-ghost use Rattle.sum_sources.specs.HashFile.{HashesFile};
+ghost use Rattle.sum_sources.specs.sources.HashFile.{HashesFile};
 
 use digest_kinds::{Algo, AnyHasher, Digest, Kind};
 use sum_sources::{Files, HashFault, Source, hash_file};

@@ -1,11 +1,9 @@
 //! Writes the line of a name to an output in memory, and reads the name back.
 #![tactic(auto)]
 
-ghost use Rattle.digest_kinds.specs.Bytes.{LIMIT};
-ghost use Rattle.digest_kinds.specs.Kind.{digest};
+ghost use Rattle.digest_kinds.specs.{Bytes.LIMIT, Kind.digest};
 ghost use Rattle.std.specs.Prelude.{◌<◌, false, length};
-ghost use Rattle.sum_lines.specs.DigestLine.{line};
-ghost use Rattle.sum_lines.specs.Output.{GivesAll};
+ghost use Rattle.sum_lines.specs.{sinks.Output.GivesAll, writing.DigestLine.line};
 ghost use Rattle.sum_settings.specs.declared.style.Mode.TheVariants.{Text};
 
 use digest_kinds::{Algo, Algos, AnyHasher, Hasher, Kind};

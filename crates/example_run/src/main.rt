@@ -3,7 +3,7 @@
 
 ghost use Rattle.digests.specs.Meaning.{meaning, status_of};
 ghost use Rattle.sum_engine.specs.Execution.{PerformsSteps, opened_names};
-ghost use Rattle.sum_sources.specs.Source.{Answers, TellsAll};
+ghost use Rattle.sum_sources.specs.sources.Source.{Answers, TellsAll};
 
 use digests::laws::told_performs;
 use digests::run;

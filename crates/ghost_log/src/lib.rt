@@ -9,8 +9,7 @@
 //! ```
 #![tactic(auto)]
 
-ghost use Rattle.std.specs.Borrow.{ftrue};
-ghost use Rattle.std.specs.Prelude.{◌≡◌};
+ghost use Rattle.std.specs.{Borrow.ftrue, Prelude.◌≡◌};
 
 use std::fmt;
 use std::fmt::{Debug, Formatter, Write};

@@ -3,21 +3,22 @@
 use Rattle.std.proofs.Common.{rules, ◌-◌, ◌+◌, ◌≤◌, ◌≡◌, ℕ, length, drop, length-drop, Bool, List, [], ◌∷◌, ◌++◌}
 use Rattle.std.proofs.Common.{Result, Ok, Err, None, true, refl, ap, ◌∙◌, subst, arith, append-nil}
 use Rattle.std.specs.Prelude.{IfErr}
-use Rattle.sum_sources.specs.Input.{IsSameInput, Fits, reads_past, Reads, Content, InputState, clip}
-use Rattle.sum_sources.specs.{declared.inputs.input.Phase.TheVariants.Unfinished, LineReader.remaining_content}
+use Rattle.sum_sources.specs.{LineReader.remaining_content, declared.inputs.input.Phase.TheVariants.Unfinished}
+use Rattle.sum_sources.specs.inputs.Input.{IsSameInput, Fits, reads_past, Reads, Content, InputState, clip}
 use Rattle.sum_engine.proofs.BehaviorLemmas.{HasDoneUpTo, done_more, done_stops}
 use Rattle.sum_engine.proofs.{CountLemmas.counts_then-none, ExecutionLemmas.Happened-none}
-use Rattle.sum_engine.proofs.{ReadAheadLemmas.read_fits_clip, ReadAheadLemmas.stops_at_step, WorldLemmas.agrees_before}
-use Rattle.sum_engine.{proofs.WorldLemmas.reads_none, proofs.WorldLemmas.reads_then, specs.Behavior.World}
-use Rattle.sum_engine.specs.{Behavior.Step, Behavior.Behavior, Execution.Agrees, Execution.ReadsToEndIf}
-use Rattle.sum_engine.specs.{Execution.world_at, Execution.PerformsSteps, Streams.StreamsState, Streams.StopHasCause}
-use Rattle.sum_engine.specs.{Streams.none_or_one, check.CheckOne.content_behavior, check.CheckOne.StopsAtStep}
-use Rattle.sum_engine.specs.check.{CheckOne.line_steps, Checker.remaining_behavior, Checker.Progress, Checker.Going}
-use Rattle.sum_engine.specs.check.Checker.{Ended, IsStep, TakesStep, behavior_from, progress_before, CheckerValue}
-use Rattle.sum_engine.specs.check.{Checker.end_result, Counts.Counts, Counts.counts_of, Counts.good, Judge.all_verdicts}
-use Rattle.sum_engine.specs.check.{Rules.LabelsValue, Rules.CheckRules, Summary.end_text, Verdicts.CheckState}
-use Rattle.sum_engine.specs.check.Verdicts.{initial_state, IsAtStart, VerdictsValue, state_at, HoldsInEachCheck}
-use Rattle.sum_engine.specs.private.CheckOne.{RunsManifest}
+use Rattle.sum_engine.proofs.ReadAheadLemmas.{read_fits_clip, stops_at_step}
+use Rattle.sum_engine.proofs.WorldLemmas.{agrees_before, reads_none, reads_then}
+use Rattle.sum_engine.specs.Behavior.{World, Step, Behavior}
+use Rattle.sum_engine.specs.Execution.{Agrees, ReadsToEndIf, world_at, PerformsSteps}
+use Rattle.sum_engine.specs.Streams.{StreamsState, StopHasCause, none_or_one}
+use Rattle.sum_engine.specs.check.CheckOne.{content_behavior, StopsAtStep, line_steps}
+use Rattle.sum_engine.specs.check.Checker.{remaining_behavior, Progress, Going, Ended, IsStep, TakesStep, behavior_from}
+use Rattle.sum_engine.specs.check.Checker.{progress_before, CheckerValue, end_result}
+use Rattle.sum_engine.specs.check.Counts.{Counts, counts_of, good}
+use Rattle.sum_engine.specs.check.{Judge.all_verdicts, Rules.LabelsValue, Rules.CheckRules, Summary.end_text}
+use Rattle.sum_engine.specs.check.Verdicts.{CheckState, initial_state, IsAtStart, VerdictsValue, state_at}
+use Rattle.sum_engine.specs.{check.Verdicts.HoldsInEachCheck, private.CheckOne.RunsManifest}
 use Rattle.sum_settings.specs.declared.stop.Stop.{Stop}
 
 -- ---- before the first step

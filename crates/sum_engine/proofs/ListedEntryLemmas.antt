@@ -1,20 +1,21 @@
 -- A manifest of lines that were written for whole files: each line is read back.
 use Rattle.std.proofs.Common.{rules, ◌≡◌, ◌≢◌, ℕ, ◌<◌, false, List, [], ◌∷◌, ◌++◌, length, map, refl, ap, sym, ◌∙◌}
 use Rattle.std.proofs.Common.{subst, ◌⊎◌, inl, IsTrue, flat_map, All, Ok}
-use Rattle.std.{specs.Char.is_newline, specs.Str.Lines.strip_carriage_return, proofs.lemmas.Bool.ne_eqb}
-use Rattle.std.proofs.lemmas.List.{append-nil, append_cancel_right}
+use Rattle.std.proofs.lemmas.{Bool.ne_eqb, List.append-nil, List.append_cancel_right}
 use Rattle.std.proofs.lemmas.List.Elements.{All-nil, All-map, All-weaker}
+use Rattle.std.specs.{Char.is_newline, Str.Lines.strip_carriage_return}
 use Rattle.digest_kinds.proofs.DigestLemmas.{length-digest, IsBytes-digest}
-use Rattle.digest_kinds.specs.{Kind.KindValue, Kind.digest, Algo.has_len, declared.algo.Algos.Algos}
+use Rattle.digest_kinds.specs.{Algo.has_len, Kind.KindValue, Kind.digest, declared.algo.Algos.Algos}
+use Rattle.sum_lines.{proofs.PutLineLemmas.prefix_of, proofs.PutLineLemmas.read_back, specs.Escape.escape}
 use Rattle.sum_lines.specs.declared.reading.read_line.Form.TheVariants.{Undecided, Standard}
-use Rattle.sum_lines.specs.{grammar.Entries.EntryValue, grammar.Entries.IsEntry, grammar.Form.form, Escape.escape}
-use Rattle.sum_lines.specs.{DigestLine.line, grammar.LineLaws.AllowsMode}
-use Rattle.sum_lines.proofs.PutLineLemmas.{prefix_of, read_back}
+use Rattle.sum_lines.specs.grammar.{Entries.EntryValue, Entries.IsEntry, Form.form, LineLaws.AllowsMode}
+use Rattle.sum_lines.specs.writing.DigestLine.{line}
 use Rattle.sum_settings.specs.declared.style.Mode.{Mode}
-use Rattle.sum_sources.specs.{declared.fault.Ending.TheVariants.Whole, Input.Content, Input.limit}
-use Rattle.sum_sources.specs.{WithStdin.is_dash, Source.AnswerValue, ManifestLines.HasNoNewline, ManifestLines.lines}
-use Rattle.sum_sources.{specs.ManifestLines.raw_lines, proofs.CutLemmas.raw_lines-joined}
-use Rattle.sum_engine.{specs.OldVerdicts.HasNoCarriageReturn, proofs.CarriageReturnLemmas.strips-kept}
+use Rattle.sum_sources.proofs.CutLemmas.{raw_lines-joined}
+use Rattle.sum_sources.specs.ManifestLines.{HasNoNewline, lines, raw_lines}
+use Rattle.sum_sources.specs.{declared.fault.Ending.TheVariants.Whole, inputs.Input.Content, inputs.Input.limit}
+use Rattle.sum_sources.specs.sources.{Source.AnswerValue, WithStdin.is_dash}
+use Rattle.sum_engine.{proofs.CarriageReturnLemmas.strips-kept, specs.OldVerdicts.HasNoCarriageReturn}
 
 -- ---- what is written
 

@@ -1,14 +1,15 @@
 -- `Verdicts::next`: the next verdict of a manifest, by what reading and judging its line did.
 use Rattle.std.proofs.Common.{rules, ◌≡◌, ◌∙◌, ℕ, ◌+◌, List, Ok, Err, Result, IfOk, Some, refl, ap, sym, arith, length}
 use Rattle.std.proofs.Common.{length-drop, ◌≤◌}
+use Rattle.sum_sources.proofs.LineLemmas.{line-some}
 use Rattle.sum_sources.specs.LineReader.{AdvancesLines, IsBounded, IsReading, ReadsOn, consumed_count, reads_of}
-use Rattle.sum_sources.specs.{LineReader.remaining_content, Input.Fits, Input.Content, Input.InputState}
-use Rattle.sum_sources.specs.declared.line_reader.LineStop.TheVariants.{Fault, Memory}
-use Rattle.sum_sources.specs.declared.line_reader.{Next.TheVariants.Line, LineStop.LineStop}
-use Rattle.sum_sources.specs.{ManifestLines.past_line, declared.line_reader.LineReader.LineReader}
-use Rattle.sum_sources.{proofs.LineLemmas.line-some, specs.Source.SourceState}
-use Rattle.sum_engine.{proofs.RemainingLemmas.remaining_next, proofs.WorldLemmas.world_at_after, specs.Behavior.World}
-use Rattle.sum_engine.specs.Execution.{Agrees, world_at}
+use Rattle.sum_sources.specs.{LineReader.remaining_content, ManifestLines.past_line}
+use Rattle.sum_sources.specs.declared.line_reader.{LineReader.LineReader, LineStop.LineStop, LineStop.TheVariants.Fault}
+use Rattle.sum_sources.specs.declared.line_reader.{LineStop.TheVariants.Memory, Next.TheVariants.Line}
+use Rattle.sum_sources.specs.inputs.Input.{Fits, Content, InputState}
+use Rattle.sum_sources.specs.sources.Source.{SourceState}
+use Rattle.sum_engine.proofs.{RemainingLemmas.remaining_next, WorldLemmas.world_at_after}
+use Rattle.sum_engine.specs.{Behavior.World, Execution.Agrees, Execution.world_at}
 use Rattle.sum_engine.specs.check.{Judge.line_verdict, Judge.LineVerdict, Judge.line_verdict_value, Rules.CheckRules}
 use Rattle.sum_engine.specs.check.Verdicts.{CheckState, HandlesLine, next_judged, HoldsInEachCheck, IsNextVerdict}
 use Rattle.sum_engine.specs.check.Verdicts.{AsksFor, VerdictsValue, counts_after, state_at}

@@ -1,18 +1,18 @@
 -- A line without a carriage return, neither as a byte nor in its name, says now what it said to older versions.
 use Rattle.std.proofs.Common.{rules, arith, ◌≡◌, ◌≢◌, ◌<◌, ◌==◌, ℕ, Bool, List, [], ◌∷◌, ◌++◌, length, refl, sym, inl}
 use Rattle.std.proofs.Common.{inr, subst, codes, append_assoc, if◌then◌else◌}
-use Rattle.std.{specs.List.starts_with, proofs.lemmas.Bool.Decides.nat_tests}
-use Rattle.std.proofs.lemmas.List.{take_at, drop_at}
+use Rattle.std.proofs.lemmas.{Bool.Decides.nat_tests, List.take_at, List.drop_at}
 use Rattle.std.proofs.lemmas.List.Elements.{All-nil, All-cons, All-head, All-tail, All-take, All-drop}
+use Rattle.std.specs.List.{starts_with}
 use Rattle.digest_kinds.specs.{Algo.tag, Kind.KindValue, declared.algo.Algos.Algos}
-use Rattle.sum_lines.specs.{Escape.escape, grammar.Shapes.IsPlain, grammar.Shapes.IsTagged, grammar.Shapes.mark}
-use Rattle.sum_lines.specs.declared.reading.read_line.Form.{Form}
+use Rattle.sum_lines.proofs.{EntryLemmas.entry_by, ParsedLineLemmas.parse_is_grammar}
+use Rattle.sum_lines.specs.{Escape.escape, declared.reading.read_line.Form.Form}
 use Rattle.sum_lines.specs.declared.reading.read_line.Form.TheVariants.{Undecided, Standard, Reversed}
 use Rattle.sum_lines.specs.grammar.Entries.{EntryValue, is_ignored, IsRawName, IsEntry}
 use Rattle.sum_lines.specs.grammar.ParsedLines.{ParsedLine, ignored, bad, entry, parse_line}
-use Rattle.sum_lines.proofs.{ParsedLineLemmas.parse_is_grammar, EntryLemmas.entry_by}
-use Rattle.sum_engine.specs.OldVerdicts.{older_escape, SaidOnce, HasNoCarriageReturn, NamesNoCarriageReturn}
+use Rattle.sum_lines.specs.grammar.Shapes.{IsPlain, IsTagged, mark}
 use Rattle.sum_engine.proofs.CarriageReturnLemmas.{IsNoCarriageReturn}
+use Rattle.sum_engine.specs.OldVerdicts.{older_escape, SaidOnce, HasNoCarriageReturn, NamesNoCarriageReturn}
 
 -- ---- bytes without a carriage return
 

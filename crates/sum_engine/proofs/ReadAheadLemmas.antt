@@ -2,13 +2,14 @@
 use Rattle.std.proofs.Common.{rules, arith, ◌≡◌, ◌≤◌, ◌+◌, ◌^◌, ℕ, List, [], ◌∷◌, ◌++◌, length, Bool, Result, Ok, Err}
 use Rattle.std.proofs.Common.{refl, ap, ◌∙◌, length-append, length-take}
 use Rattle.std.specs.Prelude.{IfErr}
-use Rattle.sum_sources.specs.{Input.IsReadTo, Input.clip, Input.Content, declared.inputs.input.Phase.Phase}
-use Rattle.sum_sources.{specs.declared.inputs.input.Phase.TheVariants.Past, proofs.ContentLemmas.limit-value}
-use Rattle.sum_engine.specs.{Behavior.Behavior, check.Rules.LabelsValue, check.Rules.CheckRules}
-use Rattle.sum_engine.specs.check.{Verdicts.CheckState, Checker.remaining_behavior, Checker.IsStep, Checker.end_result}
-use Rattle.sum_engine.specs.check.{Checker.progress_before, CheckOne.remaining_before, CheckOne.StopsAtStep}
-use Rattle.sum_engine.{specs.Streams.StreamsState, proofs.BehaviorLemmas.HasDoneUpTo}
-use Rattle.sum_engine.proofs.{BehaviorLemmas.behavior_then-first, RemainingLemmas.remaining_before-left}
+use Rattle.sum_sources.proofs.ContentLemmas.{limit-value}
+use Rattle.sum_sources.specs.declared.inputs.input.Phase.{Phase, TheVariants.Past}
+use Rattle.sum_sources.specs.inputs.Input.{IsReadTo, clip, Content}
+use Rattle.sum_engine.proofs.BehaviorLemmas.{HasDoneUpTo, behavior_then-first}
+use Rattle.sum_engine.{proofs.RemainingLemmas.remaining_before-left, specs.Behavior.Behavior}
+use Rattle.sum_engine.specs.{Streams.StreamsState, check.CheckOne.remaining_before, check.CheckOne.StopsAtStep}
+use Rattle.sum_engine.specs.check.Checker.{remaining_behavior, IsStep, end_result, progress_before}
+use Rattle.sum_engine.specs.check.{Rules.LabelsValue, Rules.CheckRules, Verdicts.CheckState}
 use Rattle.sum_settings.specs.declared.stop.Stop.{Stop, TheVariants.Write, TheVariants.Memory}
 
 -- reads that didn't go past an end gave, up to the limit, not many more bytes than the content has below the limit

@@ -1,15 +1,16 @@
 -- The verdicts and the behavior that remain, after one line and the next.
 use Rattle.std.proofs.Common.{rules, arith, ◌≡◌, ◌≤◌, ℕ, zero, suc, List, [], ◌∷◌, length, refl, ap, ◌∙◌}
 use Rattle.sum_lines.proofs.EntryLemmas.{form_next, parse_stays}
-use Rattle.sum_engine.specs.check.Counts.{Counts, counts_of, good, counts_and_line, counts_then}
+use Rattle.sum_engine.proofs.CountLemmas.{counts_then-line}
+use Rattle.sum_engine.specs.Behavior.{world_after, Step, Behavior}
+use Rattle.sum_engine.specs.check.CheckOne.{line_steps, remaining_before}
 use Rattle.sum_engine.specs.check.Checker.{remaining_behavior, Going, behavior_from, progress_before}
+use Rattle.sum_engine.specs.check.Counts.{Counts, counts_of, good, counts_and_line, counts_then}
+use Rattle.sum_engine.specs.check.Judge.{LineVerdictValue, asks_of}
+use Rattle.sum_engine.specs.check.{Report.out_of, Report.err_of, Rules.LabelsValue, Rules.CheckRules, Summary.end_text}
 use Rattle.sum_engine.specs.check.Verdicts.{CheckState, HandlesLine, next_judged, remaining_verdicts}
-use Rattle.sum_engine.specs.{Behavior.world_after, Behavior.Step, Behavior.Behavior, check.CheckOne.line_steps}
-use Rattle.sum_engine.specs.check.{CheckOne.remaining_before, Judge.LineVerdictValue, Judge.asks_of, Report.out_of}
-use Rattle.sum_engine.{specs.check.Report.err_of, proofs.CountLemmas.counts_then-line, specs.check.Rules.LabelsValue}
-use Rattle.sum_engine.specs.check.{Rules.CheckRules, Summary.end_text}
-use Rattle.sum_sources.specs.{declared.fault.Ending.Ending, Input.Content}
 use Rattle.sum_sources.specs.ManifestLines.{past_line, content_past_lines}
+use Rattle.sum_sources.specs.{declared.fault.Ending.Ending, inputs.Input.Content}
 
 -- one line's verdict, and those that remain after it
 pub remaining_next : (r : CheckRules) (a b : CheckState) (v : List ℕ) (h : HandlesLine r a b v)

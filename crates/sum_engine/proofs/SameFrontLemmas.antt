@@ -6,8 +6,8 @@ use Rattle.sum_engine.specs.check.{Judge.line_verdict, Judge.asks_of, Judge.verd
 use Rattle.sum_lines.proofs.EntryLemmas.{form_next, parse_stays, same_parse, same_form}
 use Rattle.sum_lines.{proofs.ParsedLineLemmas.parse_is_grammar, specs.Escape.escape}
 use Rattle.sum_lines.specs.declared.reading.read_line.Form.{Form, TheVariants.Undecided}
-use Rattle.sum_lines.specs.grammar.{Entries.EntryValue, Entries.IsEntry, Form.form, Form.form_then, Form.line_form}
-use Rattle.sum_lines.specs.grammar.ParsedLines.{parse_line}
+use Rattle.sum_lines.specs.grammar.Entries.{EntryValue, IsEntry}
+use Rattle.sum_lines.specs.grammar.{Form.form, Form.form_then, Form.line_form, ParsedLines.parse_line}
 use Rattle.digest_kinds.specs.declared.algo.Algos.{Algos}
 
 -- the verdicts of the first lines, by the form so far

@@ -1,19 +1,21 @@
 -- One step of a checker, `Checker::step`: the next verdict was found, and its text was written.
 use Rattle.std.proofs.Common.{rules, ◌≡◌, ◌⊎◌, ◌<◌, ◌≤◌, ℕ, Bool, true, false, List, [], length, None, Some, Result, Ok}
 use Rattle.std.proofs.Common.{Err, inl, inr, refl, ap, ◌∙◌, arith}
+use Rattle.sum_sources.specs.LineReader.{remaining_content}
 use Rattle.sum_sources.specs.declared.fault.Ending.{Ending, TheVariants.Whole, TheVariants.Broken}
-use Rattle.sum_sources.specs.{Input.Content, Input.InputState, Source.SourceState, LineReader.remaining_content}
-use Rattle.sum_engine.specs.{Behavior.World, check.Rules.LabelsValue, check.Verdicts.CheckState}
-use Rattle.sum_engine.specs.check.Verdicts.{remaining_verdicts, VerdictsValue, state_at, HoldsInEachCheck}
-use Rattle.sum_engine.specs.check.Verdicts.{AdvancesVerdicts, AsksFor, VerdictResult, IsNextVerdict, IsNotUnread}
-use Rattle.sum_engine.specs.check.{Verdicts.HasNoVerdictLeft, Checker.remaining_behavior, Checker.CheckerValue}
-use Rattle.sum_engine.specs.check.Checker.{Progress, Going, Ended, IsStep, ReportsFound, TakesStep}
-use Rattle.sum_engine.specs.check.{Report.err_of, Report.out_of, Summary.end_text, Counts.good, Judge.LineVerdict}
-use Rattle.sum_engine.specs.{check.Judge.line_verdict_value, Execution.RefusesMemory, Execution.AsksNames}
-use Rattle.sum_engine.specs.Streams.{StopHasCause, none_or_one, BothOutputs, StreamsState, WritesAndReturns}
+use Rattle.sum_sources.specs.{inputs.Input.Content, inputs.Input.InputState, sources.Source.SourceState}
+use Rattle.sum_engine.proofs.CountLemmas.{counts_then-nil}
 use Rattle.sum_engine.proofs.ExecutionLemmas.{step_performed, refused_first, one_at_most}
-use Rattle.sum_engine.proofs.{WorldLemmas.reads_weaker, CountLemmas.counts_then-nil, RemainingLemmas.line_step}
-use Rattle.sum_engine.proofs.RemainingLemmas.{behavior_by, first_step, going-before}
+use Rattle.sum_engine.proofs.RemainingLemmas.{line_step, behavior_by, first_step, going-before}
+use Rattle.sum_engine.{proofs.WorldLemmas.reads_weaker, specs.Behavior.World}
+use Rattle.sum_engine.specs.Execution.{RefusesMemory, AsksNames}
+use Rattle.sum_engine.specs.Streams.{StopHasCause, none_or_one, BothOutputs, StreamsState, WritesAndReturns}
+use Rattle.sum_engine.specs.check.Checker.{remaining_behavior, CheckerValue, Progress, Going, Ended, IsStep}
+use Rattle.sum_engine.specs.check.{Checker.ReportsFound, Checker.TakesStep, Counts.good, Judge.LineVerdict}
+use Rattle.sum_engine.specs.check.{Judge.line_verdict_value, Report.err_of, Report.out_of, Rules.LabelsValue}
+use Rattle.sum_engine.specs.check.{Summary.end_text, Verdicts.CheckState, Verdicts.remaining_verdicts}
+use Rattle.sum_engine.specs.check.Verdicts.{VerdictsValue, state_at, HoldsInEachCheck, AdvancesVerdicts, AsksFor}
+use Rattle.sum_engine.specs.check.Verdicts.{VerdictResult, IsNextVerdict, IsNotUnread, HasNoVerdictLeft}
 use Rattle.sum_settings.specs.declared.stop.Stop.{Stop, TheVariants.Memory}
 use Rattle.sum_sources.specs.declared.line_reader.LineStop.TheVariants as line_stops
 

@@ -1,13 +1,12 @@
 -- Names opened one after another, and the worlds that agree with one call after another.
 use Rattle.std.proofs.Common.{rules, ◌≡◌, ap, refl, ℕ, zero, suc, List, [], ◌∷◌, ◌++◌, Option, None, Some, Result}
 use Rattle.std.proofs.Common.{IfSome, IfOk, append_assoc, append-nil, bytes_eq}
-use Rattle.std.{specs.Prelude.slice_get, specs.Option.option_flatten, proofs.lemmas.List.map-append}
-use Rattle.std.proofs.lemmas.Result.{IfOk-weaker}
+use Rattle.std.proofs.lemmas.List.{map-append}
 use Rattle.std.proofs.lemmas.List.Elements.{All-nil, All-cons, All-append, All-weaker}
+use Rattle.std.{proofs.lemmas.Result.IfOk-weaker, specs.Option.option_flatten, specs.Prelude.slice_get}
 use Rattle.sum_sources.proofs.GaveLemmas.{true_or_false, gave-append, gave-seam}
-use Rattle.sum_sources.specs.Input.{Reads}
-use Rattle.sum_sources.specs.Source.{Opening, FitsAnswer, state_with_opening, results_of}
-use Rattle.sum_sources.specs.{Source.names_of, Source.times, Source.SourceState, declared.fault.Fault.Fault}
+use Rattle.sum_sources.specs.{declared.fault.Fault.Fault, inputs.Input.Reads, sources.Source.Opening}
+use Rattle.sum_sources.specs.sources.Source.{FitsAnswer, state_with_opening, results_of, names_of, times, SourceState}
 use Rattle.sum_engine.specs.Behavior.{World, world_after}
 use Rattle.sum_engine.specs.Execution.{AsksNames, Agrees, world_at, IsAtEndIf, ReadsFile, ReadsToEndIf}
 

@@ -1,10 +1,10 @@
 -- What a call can open in its source, and what it does: a list of steps, between which memory may run out.
-use Rattle.std.specs.Prelude.{ℕ, ◌&&◌, Bool, List, [], ◌∷◌, ◌++◌, map, flat_map, Option, None, Some, Result, Ok, Err}
+use Rattle.std.specs.Prelude.{ℕ, ◌&&◌, Bool, List, [], ◌∷◌, ◌++◌, map, flat_map, Result, Ok, Err}
 use Rattle.digest_kinds.specs.{Bytes.ByteString, Kind.KindValue, Kind.digest}
-use Rattle.sum_lines.specs.Output.{OutputEvent, output_events}
-use Rattle.sum_sources.specs.{Input.clip, declared.fault.Ending.Ending}
-use Rattle.sum_sources.specs.declared.fault.Ending.TheVariants.{Whole, Broken}
-use Rattle.sum_sources.specs.{Source.AnswerValue, Source.times, declared.fault.Fault.Fault}
+use Rattle.sum_lines.specs.sinks.Output.{OutputEvent, output_events}
+use Rattle.sum_sources.specs.declared.fault.Ending.{Ending, TheVariants.Whole, TheVariants.Broken}
+use Rattle.sum_sources.specs.{declared.fault.Fault.Fault, inputs.Input.clip}
+use Rattle.sum_sources.specs.sources.Source.{AnswerValue, times}
 
 -- a world: what the outside may be. A file may change between two openings of it
 pub record World : Type 0 where
@@ -54,21 +54,6 @@ events_of step =
 -- the events of steps, one step after another
 abbrev pub trace : List Step → List Event
 trace steps = flat_map events_of steps
-
--- the name that an event opens, if it opens one
-abbrev pub opened_name : Event → Option ByteString
-opened_name (open_name name) = Some name
-opened_name event = None
-
--- what standard error gets by an event, if it gets something
-abbrev pub err_event : Event → Option OutputEvent
-err_event (to_err event) = Some event
-err_event event = None
-
--- what standard output gets by an event, if it gets something
-abbrev pub out_event : Event → Option OutputEvent
-out_event (to_out event) = Some event
-out_event event = None
 
 -- a behavior, and then another
 abbrev pub behavior_then : Behavior → Behavior → Behavior

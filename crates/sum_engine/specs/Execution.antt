@@ -1,13 +1,14 @@
 -- What a call reads, and what it performs of a behavior: the form of the headline.
 use Rattle.std.specs.Prelude.{ℕ, ◌≡◌, ◌≢◌, ◌+◌, ◌<◌, ◌⊎◌, Bool, List, ◌∷◌, ◌++◌, filter_map, All, Some, IfSome, Result}
-use Rattle.std.specs.Prelude.{Ok, Err, IfOk}
+use Rattle.std.specs.Prelude.{Option, None, Ok, Err, IfOk}
 use Rattle.digest_kinds.specs.Bytes.{ByteString}
 use Rattle.sum_settings.specs.declared.stop.Stop.{Stop, TheVariants.Memory, TheVariants.Write}
-use Rattle.sum_lines.specs.Output.{Gets}
-use Rattle.sum_sources.specs.Source.{SourceState, Opening, FitsAnswer, names_of, result_at}
+use Rattle.sum_lines.specs.sinks.Output.{Gets, OutputEvent}
+use Rattle.sum_sources.specs.declared.fault.{Ending.TheVariants.Whole, Fault.Fault}
 use Rattle.sum_sources.specs.declared.inputs.input.Phase.TheVariants.{Ended, Past}
-use Rattle.sum_sources.specs.{Input.Reads, declared.fault.Ending.TheVariants.Whole, declared.fault.Fault.Fault}
-use Rattle.sum_engine.specs.Behavior.{World, Event, Step, Behavior, trace, opened_name, err_event, out_event}
+use Rattle.sum_sources.specs.inputs.Input.{Reads}
+use Rattle.sum_sources.specs.sources.Source.{SourceState, Opening, FitsAnswer, names_of, result_at}
+use Rattle.sum_engine.specs.Behavior.{World, Event, open_name, to_err, to_out, Step, Behavior, trace}
 use Rattle.sum_engine.specs.Streams.{StreamsState}
 
 -- ---- what was read
@@ -47,6 +48,21 @@ pub record AsksNames (before after : SourceState) (names : List ByteString) : Ty
 -- the source was refused memory, and nothing else happened
 abbrev pub RefusesMemory : SourceState → SourceState → Type 0
 RefusesMemory before after = after ≡ record before { refusals = before.refusals + 1 }
+
+-- the name that an event opens, if it opens one
+abbrev pub opened_name : Event → Option ByteString
+opened_name (open_name name) = Some name
+opened_name event = None
+
+-- what standard error gets by an event, if it gets something
+abbrev pub err_event : Event → Option OutputEvent
+err_event (to_err event) = Some event
+err_event event = None
+
+-- what standard output gets by an event, if it gets something
+abbrev pub out_event : Event → Option OutputEvent
+out_event (to_out event) = Some event
+out_event event = None
 
 -- these events happened: the names were opened, and each output was offered its pieces and wrote its bytes
 pub record Happened (before after : StreamsState) (events : List Event) : Type 0 where

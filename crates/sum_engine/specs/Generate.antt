@@ -2,7 +2,7 @@
 use Rattle.std.specs.Prelude.{true, false, [], ◌∷◌, Result, Ok, Err}
 use Rattle.sum_settings.specs.declared.settings.Settings.{Settings}
 use Rattle.digest_kinds.specs.Bytes.{ByteString}
-use Rattle.sum_lines.specs.DigestLine.{line}
+use Rattle.sum_lines.specs.writing.DigestLine.{line}
 use Rattle.sum_sources.specs.declared.fault.Fault.{Fault}
 use Rattle.sum_engine.specs.Behavior.{World, answer_to, digest_or_fault, Behavior, single_step}
 use Rattle.sum_engine.specs.ToolLines.{name_fault_line}

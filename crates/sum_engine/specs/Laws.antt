@@ -3,15 +3,16 @@ use Rattle.std.specs.Prelude.{ℕ, ◌≡◌, ◌+◌, ◌≤◌, ◌↔◌, Boo
 use Rattle.std.specs.Prelude.{Ok, IfSome, map}
 use Rattle.digest_kinds.specs.{Bytes.ByteString, Kind.KindValue}
 use Rattle.sum_settings.specs.declared.stop.Stop.{Stop}
-use Rattle.sum_lines.specs.{Escape.escape, grammar.Shapes.IsPlain, grammar.Entries.EntryValue, grammar.Entries.IsEntry}
-use Rattle.sum_lines.specs.grammar.{Form.form, ParsedLines.parse_line}
-use Rattle.sum_sources.specs.{Input.Content, Source.ToldAnswers, Source.SourceState}
-use Rattle.sum_sources.specs.ManifestLines.{content_past_lines, lines}
+use Rattle.sum_lines.specs.{Escape.escape, grammar.Entries.EntryValue}
+use Rattle.sum_lines.specs.grammar.{Entries.IsEntry, Form.form, ParsedLines.parse_line, Shapes.IsPlain}
+use Rattle.sum_sources.specs.{ManifestLines.content_past_lines, ManifestLines.lines, inputs.Input.Content}
+use Rattle.sum_sources.specs.sources.Source.{ToldAnswers, SourceState}
 use Rattle.sum_engine.specs.Behavior.{World, Behavior, trace, out_text, err_text, asks}
 use Rattle.sum_engine.specs.Execution.{Agrees, AsksNames, Happened, PerformsSteps}
-use Rattle.sum_engine.specs.check.{Checker.Going, Checker.Ended, Checker.IsStep, Checker.end_result, Rules.LabelsValue}
-use Rattle.sum_engine.specs.check.{Rules.CheckRules, Judge.verdicts, Judge.all_verdicts, Verdicts.CheckState}
-use Rattle.sum_engine.specs.{check.Verdicts.initial_state, Streams.StreamsState, check.CheckOne.content_behavior}
+use Rattle.sum_engine.specs.{Streams.StreamsState, check.CheckOne.content_behavior}
+use Rattle.sum_engine.specs.check.Checker.{Going, Ended, IsStep, end_result}
+use Rattle.sum_engine.specs.check.{Judge.verdicts, Judge.all_verdicts, Rules.LabelsValue, Rules.CheckRules}
+use Rattle.sum_engine.specs.check.Verdicts.{CheckState, initial_state}
 
 -- some world agrees with what was read so far, and has each answer that the source tells
 abbrev pub ToldAgree : ToldAnswers → SourceState → Type 0

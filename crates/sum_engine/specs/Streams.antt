@@ -1,9 +1,9 @@
 -- What a contract sees of the streams: their state, the cause of a stop, and what an output is given.
 use Rattle.std.specs.Prelude.{ℕ, ◌≡◌, ◌+◌, ◌⊎◌, List, [], ◌∷◌, Any, Result, Ok, Err}
 use Rattle.digest_kinds.specs.Bytes.{ByteString}
-use Rattle.sum_lines.specs.Output.{OutputState, output_events, Gets, GetsPrefix}
+use Rattle.sum_lines.specs.sinks.Output.{OutputState, output_events, Gets, GetsPrefix}
 use Rattle.sum_settings.specs.declared.stop.Stop.{Stop, TheVariants.Memory, TheVariants.Write}
-use Rattle.sum_sources.specs.Source.{SourceState}
+use Rattle.sum_sources.specs.sources.Source.{SourceState}
 
 -- both outputs
 pub record BothOutputs : Type 0 where

@@ -1,5 +1,5 @@
 -- The lines that begin with the tool and a name.
-use Rattle.std.specs.{Prelude.[], Prelude.◌∷◌, Prelude.codes, List.concat}
+use Rattle.std.specs.{List.concat, Prelude.[], Prelude.◌∷◌, Prelude.codes}
 use Rattle.digest_kinds.specs.Bytes.{ByteString}
 use Rattle.sum_sources.specs.{Fault.fault_text, declared.fault.Fault.Fault}
 use Rattle.sum_lines.specs.Escape.{escape}

@@ -1,9 +1,7 @@
 //! Hashing one name, and writing its line.
 ghost use Rattle.std.specs.Prelude.{◌≡◌, [], ◌∷◌, true, Ok};
 ghost use Rattle.sum_engine.specs.Execution.{Performs, ReadsToEndIf};
-ghost use Rattle.sum_engine.specs.Generate.{generate_behavior};
-ghost use Rattle.sum_engine.specs.Streams.{StopHasCause};
-ghost use Rattle.sum_engine.specs.private.Generate.{fault_in};
+ghost use Rattle.sum_engine.specs.{Generate.generate_behavior, Streams.StopHasCause, private.Generate.fault_in};
 
 use crate::streams::Streams;
 use crate::tool_lines::NameFaultLine;

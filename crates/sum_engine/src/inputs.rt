@@ -1,7 +1,7 @@
 //! What a call opens and reads through.
 ghost use Rattle.std.specs.Prelude.{◌≡◌, length, IfOk};
-ghost use Rattle.sum_sources.specs.HashFile.{HashesFile};
-ghost use Rattle.sum_sources.specs.Source.{IsOpen, state_after_closing, state_after_opening, opened_file};
+ghost use Rattle.sum_sources.specs.sources.HashFile.{HashesFile};
+ghost use Rattle.sum_sources.specs.sources.Source.{IsOpen, state_after_closing, state_after_opening, opened_file};
 
 use digest_kinds::{AnyHasher, Digest, Kind};
 use std::marker::{Model, PhantomData};
@@ -19,7 +19,7 @@ pub struct Inputs<S: Source> {
 }
 
 impl<S: Source> Model for Inputs<S> {
-    ghost use Rattle.sum_sources.specs.Source.{SourceState};
+    ghost use Rattle.sum_sources.specs.sources.Source.{SourceState};
 
     ghost Value = { SourceState };
 

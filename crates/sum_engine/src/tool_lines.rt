@@ -1,7 +1,7 @@
 //! The lines that begin with the tool and a name.
 ghost use Rattle.std.specs.Prelude.{◌≡◌};
 ghost use Rattle.sum_engine.specs.ToolLines.{tool_line};
-ghost use Rattle.sum_lines.specs.Parts.{joined_text};
+ghost use Rattle.sum_lines.specs.writing.Parts.{joined_text};
 
 use sum_lines::{Buffered, Part, Sink, SinkFault, Text, put_parts};
 use sum_sources::Fault;

@@ -1,10 +1,8 @@
 //! Callers with standard input beside a source of files.
 ghost use Rattle.std.specs.Prelude.{◌≡◌, ◌==◌, ◌+◌, IsTrue, false, codes, OnOk};
 ghost use Rattle.sum_engine.specs.Execution.{opened_names};
-ghost use Rattle.sum_sources.specs.WithStdinView.{stdin_in};
-ghost use Rattle.sum_sources.specs.Source.{times};
-ghost use Rattle.sum_sources.specs.Stdin.{is_untaken};
-ghost use Rattle.sum_sources.specs.WithStdin.{is_dash};
+ghost use Rattle.sum_sources.specs.inputs.Stdin.{is_untaken};
+ghost use Rattle.sum_sources.specs.sources.{Source.times, WithStdin.is_dash, WithStdinView.stdin_in};
 
 use std::alloc::Allocator;
 use sum_engine::laws::told_agree;

@@ -1,6 +1,6 @@
 //! What the tests work on. The calls here have no contracts, so that their callers' proofs stay short.
 ghost use Rattle.std.specs.Prelude.{◌≡◌};
-ghost use Rattle.sum_sources.specs.Input.{empty_reads};
+ghost use Rattle.sum_sources.specs.inputs.Input.{empty_reads};
 
 use digest_kinds::{Algo, Algos, Kind};
 use std::alloc::{Allocator, Global};

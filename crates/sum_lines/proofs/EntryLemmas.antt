@@ -1,15 +1,16 @@
 -- The one form of a list of lines, and what later lines change of it: neither how a line parses nor the form after a
 -- plain line.
-use Rattle.std.{proofs.lemmas.Grind.common_steps, specs.List.AllPass, proofs.Common.ℕ, proofs.Common.◌≡◌}
-use Rattle.std.proofs.Common.{Bool, true, false, List, [], ◌∷◌, ◌++◌, Option, None, Some, refl, sym, ◌∙◌, inl, inr}
-use Rattle.std.proofs.Common.{arith, rules}
-use Rattle.digest_kinds.{specs.Kind.KindValue, proofs.PrefixLemmas.none_of, specs.declared.algo.Algos.Algos}
-use Rattle.sum_lines.specs.grammar.{Shapes.is_blank, Shapes.mark, Shapes.IsPlain, Form.Form, Form.Undecided}
-use Rattle.sum_lines.specs.grammar.{Form.IsForm, Form.form_then, Form.line_form, Form.form, Entries.EntryValue}
-use Rattle.sum_lines.specs.grammar.{Entries.is_ignored, Entries.IsEntry, LineParts.LinePartsValue}
-use Rattle.sum_lines.specs.grammar.{LineParts.plain_parts, LineLaws.HasOneForm, ParsedLines.entry_of}
-use Rattle.sum_lines.{specs.grammar.ParsedLines.parse_line, proofs.TaggedLemmas.BeginsText}
+use Rattle.std.proofs.Common.{ℕ, ◌≡◌, Bool, true, false, List, [], ◌∷◌, ◌++◌, Option, None, Some, refl, sym, ◌∙◌, inl}
+use Rattle.std.proofs.Common.{inr, arith, rules}
+use Rattle.std.{proofs.lemmas.Grind.common_steps, specs.List.AllPass}
+use Rattle.digest_kinds.{proofs.PrefixLemmas.none_of, specs.Kind.KindValue, specs.declared.algo.Algos.Algos}
 use Rattle.sum_lines.proofs.PlainLemmas.{plain-digits, plain_is_read, read_is_plain}
+use Rattle.sum_lines.proofs.TaggedLemmas.{BeginsText}
+use Rattle.sum_lines.specs.grammar.Entries.{EntryValue, is_ignored, IsEntry}
+use Rattle.sum_lines.specs.grammar.Form.{Form, Undecided, IsForm, form_then, line_form, form}
+use Rattle.sum_lines.specs.grammar.{LineLaws.HasOneForm, LineParts.LinePartsValue, LineParts.plain_parts}
+use Rattle.sum_lines.specs.grammar.ParsedLines.{entry_of, parse_line}
+use Rattle.sum_lines.specs.grammar.Shapes.{is_blank, mark, IsPlain}
 
 -- a line of either shape isn't ignored
 not_ignored : (blanks : List ℕ) (e : Bool) (xs rest : List ℕ) → AllPass is_blank blanks → BeginsText xs

@@ -3,16 +3,17 @@
 use Rattle.std.proofs.Common.{◌≡◌, ℕ, zero, suc, ◌+◌, ◌-◌, ◌<◌, ◌≤◌, true, not, List, [], ◌∷◌, ◌++◌, length, take, drop}
 use Rattle.std.proofs.Common.{get_or, Option, None, Some, MatchOption, refl, ap, sym, ◌∙◌, arith, is_some}
 use Rattle.std.proofs.Common.{length-append, length-drop, ◌↔◌, ◌==◌, Bool, false, cond, ◌≢◌, append_assoc, All, nat_lt}
-use Rattle.std.proofs.{Common.rules, Common.slice_range, lemmas.Bool.false_from_ne_true}
-use Rattle.std.proofs.lemmas.{Grind.flat_map-append, Grind.common_steps, Slice.Eq.bytes_eq-Decides, Option.cond_some}
-use Rattle.std.proofs.lemmas.List.{Sums.list_all-from_AllPass, Folds.list_all_at, length-take-le, append-nil}
-use Rattle.std.proofs.lemmas.List.{append_cancel_left, drop-drop, drop-take, take-append-drop}
-use Rattle.std.{proofs.Math.Seq.take-length, proofs.Math.Seq.take-append-add, specs.List.list_all, specs.Option.is_some}
+use Rattle.std.proofs.{Common.rules, Common.slice_range, Math.Seq.take-length, Math.Seq.take-append-add}
+use Rattle.std.proofs.lemmas.{Bool.false_from_ne_true, Grind.flat_map-append, Grind.common_steps, List.length-take-le}
+use Rattle.std.proofs.lemmas.List.{append-nil, append_cancel_left, drop-drop, drop-take, take-append-drop}
+use Rattle.std.proofs.lemmas.{List.Folds.list_all_at, List.Sums.list_all-from_AllPass, Option.cond_some}
+use Rattle.std.{proofs.lemmas.Slice.Eq.bytes_eq-Decides, specs.List.list_all, specs.Option.is_some}
 use Rattle.memchr.specs.Find.{Nowhere, Passes, IsFirstByte, is_byte3, is_byte}
-use Rattle.sum_lines.specs.{Escape.escape, Escape.escape_of, Escape.escape_differs, grammar.Entries.EntryValue}
-use Rattle.sum_lines.specs.grammar.{Form.Standard, Form.begins_standard, LineParts.LinePartsValue}
+use Rattle.sum_lines.specs.Escape.{escape, escape_of, escape_differs}
+use Rattle.sum_lines.specs.declared.reading.line_parts.LineParts.{LineParts}
+use Rattle.sum_lines.specs.grammar.{Entries.EntryValue, Form.Standard, Form.begins_standard, LineParts.LinePartsValue}
 use Rattle.sum_lines.specs.grammar.ParsedLines.{unescaped_bytes, unescape, entry_of_parts, parts_with_raw_name}
-use Rattle.sum_lines.specs.{declared.reading.line_parts.LineParts.LineParts, private.Beginnings.line_parts}
+use Rattle.sum_lines.specs.private.Beginnings.{line_parts}
 use Rattle.digest_kinds.proofs.PrefixLemmas.{bind_some}
 
 -- what precedes the first special byte is its own escape

@@ -2,9 +2,9 @@
 use Rattle.std.proofs.Common.{ℕ, zero, suc, ◌≡◌, ◌<◌, ◌≤◌, List, [], ◌∷◌, ◌++◌, length, take, drop, filter_map, Ok, Err}
 use Rattle.std.proofs.Common.{inl, inr, refl, ap, append_assoc, append-nil, arith, rules}
 use Rattle.std.proofs.lemmas.List.Elements.{filter_map-append}
-use Rattle.sum_lines.specs.{Sink.SinkState, Sink.WritesSome, Output.OutputEvent, Output.OffersEach, Output.GivesAll}
-use Rattle.sum_lines.specs.Output.{offer_piece, write_byte, written_byte, byte_events, output_events}
 use Rattle.sum_lines.proofs.EventLemmas.{one_piece}
+use Rattle.sum_lines.specs.sinks.Output.{OutputEvent, OffersEach, GivesAll, offer_piece, write_byte, written_byte}
+use Rattle.sum_lines.specs.sinks.{Output.byte_events, Output.output_events, Sink.SinkState, Sink.WritesSome}
 
 -- what is left of a piece is offered, if anything is
 abbrev again : List ℕ → List (List ℕ)

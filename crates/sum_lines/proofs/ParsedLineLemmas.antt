@@ -1,17 +1,16 @@
 -- How a line parses, as it is computed, is what the line grammar says of it.
 use Rattle.std.proofs.Common.{◌≡◌, ◌↔◌, ℕ, false, List, Option, None, Some, refl, ap, sym, ◌∙◌, ◌⊎◌, inl, inr, arith}
-use Rattle.std.{specs.Option.option_or, proofs.lemmas.Option.same_Some}
-use Rattle.digest_kinds.{specs.Bytes.◌>>=◌, proofs.PrefixLemmas.bind_some, proofs.PrefixLemmas.none_of}
-use Rattle.digest_kinds.specs.declared.algo.Algos.{Algos}
-use Rattle.sum_lines.specs.{grammar.Shapes.IsPlain, grammar.Shapes.IsTagged, Escape.escape, grammar.Form.Form}
+use Rattle.std.{proofs.lemmas.Option.same_Some, specs.Option.option_or}
+use Rattle.digest_kinds.proofs.PrefixLemmas.{bind_some, none_of}
+use Rattle.digest_kinds.specs.{Bytes.◌>>=◌, declared.algo.Algos.Algos}
+use Rattle.sum_lines.proofs.{EntryLemmas.entry-not_ignored, EscapeLemmas.spelled-is, EscapeLemmas.is-spelled}
+use Rattle.sum_lines.proofs.PlainLemmas.{one_shape, plain_is_read, read_is_plain}
+use Rattle.sum_lines.{proofs.TaggedLemmas.tagged_is_read, proofs.TaggedLemmas.read_is_tagged, specs.Escape.escape}
 use Rattle.sum_lines.specs.grammar.Entries.{EntryValue, IsEntry, IsRawName, is_ignored}
+use Rattle.sum_lines.specs.grammar.{Form.Form, LineLaws.HasOneEntry, LineLaws.FitsGrammar, LineLaws.ParsesByGrammar}
 use Rattle.sum_lines.specs.grammar.LineParts.{LinePartsValue, tagged_parts, plain_parts}
 use Rattle.sum_lines.specs.grammar.ParsedLines.{parts_with_raw_name, entry_of_parts, entry_of, ParsedLine, bad}
-use Rattle.sum_lines.specs.grammar.ParsedLines.{parse_line}
-use Rattle.sum_lines.specs.grammar.LineLaws.{HasOneEntry, FitsGrammar, ParsesByGrammar}
-use Rattle.sum_lines.proofs.PlainLemmas.{one_shape, plain_is_read, read_is_plain}
-use Rattle.sum_lines.proofs.{TaggedLemmas.tagged_is_read, TaggedLemmas.read_is_tagged, EntryLemmas.entry-not_ignored}
-use Rattle.sum_lines.proofs.EscapeLemmas.{spelled-is, is-spelled}
+use Rattle.sum_lines.specs.grammar.{ParsedLines.parse_line, Shapes.IsPlain, Shapes.IsTagged}
 
 module _ (algos : Algos) (f : Form) (line : List ℕ) where
   -- ---- the entry that a line has is computed

@@ -2,17 +2,18 @@
 -- plain. No line is both plain and tagged.
 use Rattle.std.proofs.Common.{ℕ, ◌≡◌, ◌<◌, ◌≤◌, not, Bool, true, List, ◌∷◌, ◌++◌, length, get_or, None, Some, Ok, refl}
 use Rattle.std.proofs.Common.{ap, sym, ◌∙◌, arith, length-drop, take_while, rules}
-use Rattle.std.proofs.{Math.Seq.drop-append-add, lemmas.List.Sums.split_at_first, lemmas.List.Sums.passes_at_first}
+use Rattle.std.proofs.{Math.Seq.drop-append-add, lemmas.List.take_at, lemmas.List.Elements.All-head}
+use Rattle.std.proofs.lemmas.List.{Elements.All-tail, Elements.All-weaker, Sums.split_at_first, Sums.passes_at_first}
 use Rattle.std.specs.List.{AllPass, before_first, after_first, position_or_len}
-use Rattle.std.proofs.lemmas.List.{take_at, Elements.All-head, Elements.All-tail, Elements.All-weaker}
-use Rattle.hex.{specs.Hex.decode_of, specs.Hex.is_hex_digit, proofs.HexLemmas.decode_of-ok}
-use Rattle.digest_kinds.{specs.Kind.KindValue, specs.Algo.tag, specs.Bytes.after_while, proofs.KindLemmas.no_digits}
+use Rattle.hex.{proofs.HexLemmas.decode_of-ok, specs.Hex.decode_of, specs.Hex.is_hex_digit}
+use Rattle.digest_kinds.proofs.KindLemmas.{no_digits}
 use Rattle.digest_kinds.proofs.PrefixLemmas.{prefix_passes, prefix-and-rest, prefix_len-stop}
+use Rattle.digest_kinds.specs.{Algo.tag, Bytes.after_while, Kind.KindValue}
 use Rattle.digest_kinds.specs.declared.algo.{Algo.Algo, Algos.Algos, Algos.TheVariants.One, Algos.TheVariants.Any}
-use Rattle.sum_lines.specs.grammar.{Shapes.is_blank, Shapes.IsPlain, Shapes.IsTagged, LineParts.LinePartsValue}
-use Rattle.sum_lines.specs.{grammar.LineParts.plain_parts, private.Beginnings.BeginsWithDigits}
-use Rattle.sum_lines.proofs.{PrefixLemmas.text, PrefixLemmas.mark_and_rest-is, TaggedLemmas.BeginsText}
-use Rattle.sum_lines.proofs.TaggedLemmas.{hex-no_blank, tagged-prefix, mark_and_rest-prefix}
+use Rattle.sum_lines.proofs.PrefixLemmas.{text, mark_and_rest-is}
+use Rattle.sum_lines.proofs.TaggedLemmas.{BeginsText, hex-no_blank, tagged-prefix, mark_and_rest-prefix}
+use Rattle.sum_lines.specs.grammar.{LineParts.LinePartsValue, LineParts.plain_parts, Shapes.is_blank, Shapes.IsPlain}
+use Rattle.sum_lines.specs.{grammar.Shapes.IsTagged, private.Beginnings.BeginsWithDigits}
 
 -- ---- what is read joins to the line
 

@@ -1,12 +1,12 @@
 -- What follows a text or a byte in a line.
 use Rattle.std.proofs.Common.{ℕ, zero, suc, ◌≡◌, ◌≢◌, ◌+◌, ◌<◌, ◌≤◌, Bool, true, cond, ◌==◌, List, [], ◌∷◌, ◌++◌}
 use Rattle.std.proofs.Common.{length, take, drop, get_or, Option, Some, refl, arith, length-append, All, option_map}
-use Rattle.std.specs.{List.starts_with, Option.option_or, Path.rsplit_once, Path.rfind_below}
 use Rattle.std.proofs.Math.Seq.{get_or-append_seam, drop-append-add}
-use Rattle.std.proofs.lemmas.{Bool.eq-eqb, Bool.Decides.Decides-eqb, List.take_at, List.get_or-append_right}
-use Rattle.std.proofs.lemmas.{List.Elements.All-get_or, Slice.Eq.starts_is, Grind.common_steps}
-use Rattle.memchr.specs.Find.{Passes, IsLast, IsLastByte, is_byte}
+use Rattle.std.proofs.lemmas.{Bool.eq-eqb, Bool.Decides.Decides-eqb, Grind.common_steps, List.take_at}
+use Rattle.std.proofs.lemmas.{List.get_or-append_right, List.Elements.All-get_or, Slice.Eq.starts_is}
+use Rattle.std.specs.{List.starts_with, Option.option_or, Path.rsplit_once, Path.rfind_below}
 use Rattle.memchr.proofs.lemmas.{FindLemmas.Nowhere-more, ValueLemmas.IsLastByte-value}
+use Rattle.memchr.specs.Find.{Passes, IsLast, IsLastByte, is_byte}
 use Rattle.digest_kinds.{proofs.PrefixLemmas.map_some, specs.Bytes.after_while}
 use Rattle.sum_lines.specs.grammar.{LineParts.strip_prefix, LineParts.mark_and_rest, Shapes.is_blank, Shapes.mark}
 

@@ -1,22 +1,22 @@
 -- A line that is written is read back. It has a shape, which spells the name and the digest that it was written for. It
 -- has no newline and no carriage return before its end.
+use Rattle.std.proofs.Common.{ℕ, ◌≡◌, ◌*◌, not, cond, Bool, true, false, ◌==◌, ◌||◌, List, [], ◌∷◌, ◌++◌, refl, ◌⊎◌}
+use Rattle.std.proofs.Common.{inl, inr, append_assoc, arith, decimal}
 use Rattle.std.proofs.lemmas.{Grind.common_steps, List.append-nil, List.Folds.list_all-append}
-use Rattle.std.proofs.{lemmas.List.Sums.list_all-from_AllPass, lemmas.Slice.Eq.bytes_eq-Decides, Common.ℕ, Common.◌≡◌}
-use Rattle.std.proofs.Common.{◌*◌, not, cond, Bool, true, false, ◌==◌, ◌||◌, List, [], ◌∷◌, ◌++◌, refl, ◌⊎◌, inl, inr}
-use Rattle.std.{proofs.Common.append_assoc, proofs.Common.arith, proofs.Common.decimal, specs.Char.is_ascii_digit}
-use Rattle.std.specs.List.{AllPass, list_all}
-use Rattle.hex.{specs.Hex.encode_lower, specs.Hex.is_hex_digit, proofs.HexLemmas.decode_of-encode_lower}
-use Rattle.digest_kinds.specs.{Kind.KindValue, Kind.IsWidth, Algo.tag, declared.algo.Algo.TheVariants.Blake2b}
+use Rattle.std.proofs.lemmas.{List.Sums.list_all-from_AllPass, Slice.Eq.bytes_eq-Decides}
+use Rattle.std.specs.{Char.is_ascii_digit, List.AllPass, List.list_all}
+use Rattle.hex.{proofs.HexLemmas.decode_of-encode_lower, specs.Hex.encode_lower, specs.Hex.is_hex_digit}
 use Rattle.digest_kinds.proofs.{BitsLemmas.decimal-digits, KindLemmas.has_len-range, PrefixLemmas.none_of}
-use Rattle.digest_kinds.specs.declared.algo.Algos.{Algos, TheVariants.One}
+use Rattle.digest_kinds.specs.{Algo.tag, Kind.KindValue, KindText.IsWidth}
+use Rattle.digest_kinds.specs.declared.algo.{Algo.TheVariants.Blake2b, Algos.Algos, Algos.TheVariants.One}
 use Rattle.sum_settings.specs.declared.style.Mode.{Mode}
-use Rattle.sum_lines.specs.{Escape.escape, Escape.escape_differs, grammar.LineParts.plain_parts}
-use Rattle.sum_lines.specs.grammar.Shapes.{mark, Allows, IsPlain, IsTagged}
-use Rattle.sum_lines.specs.grammar.Form.{Form, Undecided, Standard, begins_standard, line_form, form}
-use Rattle.sum_lines.specs.grammar.{Entries.IsEntry, LineLaws.IsWritable, LineLaws.SpellsBack, LineLaws.IsReadBack}
 use Rattle.sum_lines.proofs.{EntryLemmas.form_at, EscapeLemmas.length-escape, ParsedLineLemmas.one_entry}
 use Rattle.sum_lines.proofs.PlainLemmas.{one_shape, digits-of, plain_is_read, read_is_plain}
-use Rattle.sum_lines.specs.DigestLine as lines
+use Rattle.sum_lines.specs.{Escape.escape, Escape.escape_differs, grammar.Entries.IsEntry}
+use Rattle.sum_lines.specs.grammar.Form.{Form, Undecided, Standard, begins_standard, line_form, form}
+use Rattle.sum_lines.specs.grammar.LineLaws.{IsWritable, SpellsBack, IsReadBack}
+use Rattle.sum_lines.specs.grammar.{LineParts.plain_parts, Shapes.mark, Shapes.Allows, Shapes.IsPlain, Shapes.IsTagged}
+use Rattle.sum_lines.specs.writing.DigestLine as lines
 
 -- a line that ends with a newline, without it
 abbrev pub prefix_of : Mode → KindValue → List ℕ → List ℕ → List ℕ

@@ -3,23 +3,21 @@
 use Rattle.std.proofs.Common.{ℕ, ◌≡◌, ◌≢◌, ◌+◌, ◌-◌, ◌*◌, ◌<◌, ◌≤◌, List, [], ◌∷◌, ◌++◌, length, take, drop}
 use Rattle.std.proofs.Common.{slice_range, Option, None, Some, MatchOption, Ok, Bor, sym, arith, append_assoc}
 use Rattle.std.proofs.Common.{option_copied, get_or, min, ◌/◌, true, cond, IfNone, IfSome, refl, length-drop, rules}
-use Rattle.std.specs.{Option.option_or, Path.rsplit_once, List.position_or_len}
-use Rattle.std.proofs.lemmas.{Grind.common_steps, List.drop_at, List.get_or-take, List.length-take}
-use Rattle.std.proofs.lemmas.List.Sums.{passes_at_first, position_or_len_is}
-use Rattle.std.proofs.lemmas.List.Elements.{All-get_or}
+use Rattle.std.proofs.lemmas.{Grind.common_steps, List.drop_at, List.get_or-take}
+use Rattle.std.proofs.lemmas.List.{length-take, Elements.All-get_or, Sums.passes_at_first, Sums.position_or_len_is}
+use Rattle.std.specs.{List.position_or_len, Option.option_or, Path.rsplit_once}
 use Rattle.memchr.specs.Find.{IsFirstByte, is_byte2}
-use Rattle.hex.{specs.Hex.decode_of, proofs.HexLemmas.decode_of-ok}
-use Rattle.digest_kinds.specs.{Bytes.after_while, Kind.kind_and_rest, declared.algo.Algo.TheVariants.Blake2b}
-use Rattle.digest_kinds.specs.{Kind.KindValue, Algo.tag, Digest.IsDigits, Algo.full_len, Algo.has_len}
-use Rattle.digest_kinds.specs.declared.algo.{Algo.Algo, Algos.Algos, Algos.TheVariants.One}
-use Rattle.sum_lines.specs.grammar.Shapes.{is_blank}
-use Rattle.sum_lines.specs.grammar.LineParts.{strip_prefix, tag_in, tagged_parts, plain_parts}
-use Rattle.sum_lines.specs.private.Beginnings.{IsFront, BeginsWithDigits, IsFirstBlank, EndsDigits, IsReadAs}
-use Rattle.sum_lines.specs.declared.reading.line_parts.Front.{Front}
-use Rattle.sum_lines.proofs.PrefixLemmas.{text, opening, strip_prefix-some, starts-append, opened-some, rsplit-some}
-use Rattle.digest_kinds.proofs.{PrefixLemmas.none_of, KindTextLemmas.kind_and_rest-some, KindLemmas.has_len-full}
+use Rattle.hex.{proofs.HexLemmas.decode_of-ok, specs.Hex.decode_of}
+use Rattle.digest_kinds.proofs.{KindLemmas.has_len-full, KindTextLemmas.kind_and_rest-some, PrefixLemmas.none_of}
+use Rattle.digest_kinds.specs.Algo.{tag, full_len, has_len}
+use Rattle.digest_kinds.specs.{Bytes.after_while, Digest.IsDigits, Kind.KindValue, KindText.kind_and_rest}
+use Rattle.digest_kinds.specs.declared.algo.{Algo.Algo, Algo.TheVariants.Blake2b, Algos.Algos, Algos.TheVariants.One}
 use Rattle.sum_lines.proofs.PlainLemmas.{uncut, cut-within, no_prefix, plain-digits, plain-prefix, read_is_plain}
+use Rattle.sum_lines.proofs.PrefixLemmas.{text, opening, strip_prefix-some, starts-append, opened-some, rsplit-some}
 use Rattle.sum_lines.proofs.TaggedLemmas.{hex-no_blank, tag_in-some}
+use Rattle.sum_lines.specs.{declared.reading.line_parts.Front.Front, grammar.LineParts.strip_prefix}
+use Rattle.sum_lines.specs.grammar.{LineParts.tag_in, LineParts.tagged_parts, LineParts.plain_parts, Shapes.is_blank}
+use Rattle.sum_lines.specs.private.Beginnings.{IsFront, BeginsWithDigits, IsFirstBlank, EndsDigits, IsReadAs}
 use Rattle.sum_lines.specs.declared.reading.beginnings.Beginning.TheVariants as beginnings
 
 -- ---- a text at the start

@@ -1,23 +1,23 @@
 -- The parts that are read of a tagged line, put together, are the line. A line that is put together from the parts of a
 -- tagged line is read as these parts.
-use Rattle.std.proofs.lemmas.{Grind.common_steps, Bool.Decides.Decides-eqb, List.Prefix.front_rest, Slice.Eq.starts_is}
-use Rattle.std.proofs.{lemmas.Option.cond_some, lemmas.List.drop_at, Common.ℕ, Common.◌≡◌, Common.Bool, Common.true}
-use Rattle.std.proofs.Common.{◌==◌, ◌&&◌, List, [], ◌∷◌, ◌++◌, length, drop, Some, refl, ◌≢◌, false, eq-eqb, arith}
-use Rattle.std.proofs.Common.{nat_lt, take_while, All, rules}
-use Rattle.std.specs.{List.starts_with, List.AllPass, Option.option_or, Path.rsplit_once, Result.result_ok}
-use Rattle.std.proofs.lemmas.Bool.{eqb-true, ltb-true, and_parts, lt-ltb}
+use Rattle.std.proofs.Common.{ℕ, ◌≡◌, Bool, true, ◌==◌, ◌&&◌, List, [], ◌∷◌, ◌++◌, length, drop, Some, refl, ◌≢◌, false}
+use Rattle.std.proofs.Common.{eq-eqb, arith, nat_lt, take_while, All, rules}
+use Rattle.std.proofs.lemmas.Bool.{eqb-true, ltb-true, and_parts, lt-ltb, Decides.Decides-eqb}
+use Rattle.std.proofs.lemmas.{Grind.common_steps, List.drop_at}
 use Rattle.std.proofs.lemmas.List.Elements.{All-cons, All-head, All-append, All-weaker}
-use Rattle.hex.{specs.Hex.decode_of, specs.Hex.is_hex_digit, proofs.HexLemmas.decode_of-ok}
-use Rattle.digest_kinds.specs.{Kind.KindValue, Kind.IsWidth, Kind.kind_and_rest, Algo.all_algos, Algo.tag}
-use Rattle.digest_kinds.specs.declared.algo.{Algo.Algo, Algos.Algos, Algos.TheVariants.One, Algos.TheVariants.Any}
-use Rattle.digest_kinds.{specs.Bytes.after_while, proofs.KindTextLemmas.kind_and_rest-some}
-use Rattle.digest_kinds.proofs.{TagLemmas.IfSome-find-begins, TagLemmas.find-begins, PrefixLemmas.bind_some}
-use Rattle.digest_kinds.proofs.PrefixLemmas.{ok_some, prefix_passes, prefix-and-rest, parts-at, prefix_len-all}
+use Rattle.std.proofs.lemmas.{List.Prefix.front_rest, Option.cond_some, Slice.Eq.starts_is}
+use Rattle.std.specs.{List.starts_with, List.AllPass, Option.option_or, Path.rsplit_once, Result.result_ok}
+use Rattle.hex.{proofs.HexLemmas.decode_of-ok, specs.Hex.decode_of, specs.Hex.is_hex_digit}
 use Rattle.digest_kinds.proofs.BitsLemmas.{kind_of_digits-bits, decimal-digits}
-use Rattle.sum_lines.specs.grammar.Shapes.{is_blank, Allows, IsTagged, mark}
-use Rattle.sum_lines.specs.grammar.LineParts.{LinePartsValue, strip_prefix, mark_and_rest, tag_in, tagged_parts}
+use Rattle.digest_kinds.proofs.{KindTextLemmas.kind_and_rest-some, PrefixLemmas.bind_some}
+use Rattle.digest_kinds.proofs.PrefixLemmas.{ok_some, prefix_passes, prefix-and-rest, parts-at, prefix_len-all}
+use Rattle.digest_kinds.{proofs.TagLemmas.IfSome-find-begins, proofs.TagLemmas.find-begins, specs.Algo.all_algos}
+use Rattle.digest_kinds.specs.{Algo.tag, Bytes.after_while, Kind.KindValue, KindText.IsWidth, KindText.kind_and_rest}
+use Rattle.digest_kinds.specs.declared.algo.{Algo.Algo, Algos.Algos, Algos.TheVariants.One, Algos.TheVariants.Any}
 use Rattle.sum_lines.proofs.PrefixLemmas.{text, opening, mark_and_rest-is, strip_prefix-some, opened-some, rsplit-some}
 use Rattle.sum_lines.proofs.PrefixLemmas.{opened-at, rsplit-at, starts-append}
+use Rattle.sum_lines.specs.grammar.LineParts.{LinePartsValue, strip_prefix, mark_and_rest, tag_in, tagged_parts}
+use Rattle.sum_lines.specs.grammar.Shapes.{is_blank, Allows, IsTagged, mark}
 
 -- ---- the tag
 

@@ -1,10 +1,5 @@
 pub mod Escape
-pub mod Output
-pub mod Sink
-pub mod ToldSink
-pub mod FromWrite
-pub mod Buffered
-pub mod Parts
-pub mod DigestLine
+pub mod sinks
+pub mod writing
 pub mod grammar
 pub mod private

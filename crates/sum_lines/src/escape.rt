@@ -1,9 +1,8 @@
 //! The escape of names in lines and diagnostics.
 ghost use Rattle.digest_kinds.specs.Bytes.{ByteString};
-ghost use Rattle.std.specs.Prelude.{◌≡◌, ◌≢◌, ◌↔◌, ◌<◌, ◌≤◌, ◌∷◌, ◌++◌, [], ℕ};
-ghost use Rattle.std.specs.Prelude.{length, vec_len, take, drop, is_some, IsTrue, IfSome, IfNone, MatchOption};
-ghost use Rattle.sum_lines.specs.Buffered.{WritesAll};
-ghost use Rattle.sum_lines.specs.Escape.{escape, escape_differs};
+ghost use Rattle.std.specs.Prelude.{◌≡◌, ◌≢◌, ◌↔◌, ◌<◌, ◌≤◌, ◌∷◌, ◌++◌, [], ℕ, length, vec_len, take, drop, is_some};
+ghost use Rattle.std.specs.Prelude.{IsTrue, IfSome, IfNone, MatchOption};
+ghost use Rattle.sum_lines.specs.{Escape.escape, Escape.escape_differs, sinks.Buffered.WritesAll};
 
 use crate::sinks::buffered::{Buffered, put_all};
 use crate::sinks::sink::{Sink, SinkFault};

@@ -2,8 +2,8 @@
 //! holds whatever the code does.
 ghost use Rattle.digest_kinds.specs.Bytes.{ByteString};
 ghost use Rattle.std.specs.Prelude.{◌≡◌, ◌<◌, ◌≤◌, ◌∷◌, [], length};
-ghost use Rattle.sum_lines.specs.Output.{pieces};
 ghost use Rattle.sum_lines.specs.grammar.LineLaws.{HasOneShape, HasOneEntry, HasOneForm, ParsesByGrammar, IsReadBack};
+ghost use Rattle.sum_lines.specs.sinks.Output.{pieces};
 
 /// For given algorithms and a given form, a line spells at most one entry. No line is both plain and tagged, even with
 /// different algorithms.

@@ -19,7 +19,7 @@ pub struct FromWrite<W: Write> {
 }
 
 impl<W: Write> FromWrite<W> {
-    ghost use Rattle.sum_lines.specs.FromWrite.{from_write_state, held_at_first};
+    ghost use Rattle.sum_lines.specs.sinks.FromWrite.{from_write_state, held_at_first};
 
     /// Creates a sink over the writer. What the writer is known to hold counts as written.
     pub fn new(writer: W) -> Self
@@ -52,8 +52,8 @@ impl<W: Write> FromWrite<W> {
 
 impl<W: Write> Sink for FromWrite<W> {
     ghost use Rattle.std.specs.Prelude.{Ok};
-    ghost use Rattle.sum_lines.specs.FromWrite.{from_write_state, held_at_first};
-    ghost use Rattle.sum_lines.specs.Sink.{WritesSome, Flushes};
+    ghost use Rattle.sum_lines.specs.sinks.FromWrite.{from_write_state, held_at_first};
+    ghost use Rattle.sum_lines.specs.sinks.Sink.{WritesSome, Flushes};
 
     ghost state = { from_write_state };
 

@@ -1,8 +1,7 @@
 //! What callers know of sinks, and of a line that is read.
-ghost use Rattle.std.specs.Prelude.{◌≡◌, ◌≤◌, ◌<◌, ◌+◌, ◌++◌, Some, Ok, IfOk, OnOk, OnErr, IsTrue};
-ghost use Rattle.std.specs.Prelude.{false, codes, length, take};
-ghost use Rattle.sum_lines.specs.Escape.{escape};
-ghost use Rattle.sum_lines.specs.declared.reading.read_line.Form.TheVariants.{Standard};
+ghost use Rattle.std.specs.Prelude.{◌≡◌, ◌≤◌, ◌<◌, ◌+◌, ◌++◌, Some, Ok, IfOk, OnOk, OnErr, IsTrue, false, codes};
+ghost use Rattle.std.specs.Prelude.{length, take};
+ghost use Rattle.sum_lines.specs.{Escape.escape, declared.reading.read_line.Form.TheVariants.Standard};
 ghost use Rattle.sum_lines.specs.grammar.Entries.{EntryValue, IsEntry, is_ignored};
 
 use digest_kinds::Algos;

@@ -1,21 +1,13 @@
 //! What follows from the laws of lines.
-ghost use Rattle.digest_kinds.specs.Bytes.{ByteString};
-ghost use Rattle.digest_kinds.specs.Kind.{KindValue};
-ghost use Rattle.digest_kinds.specs.declared.algo.Algos.{Algos};
-ghost use Rattle.digest_kinds.specs.declared.algo.Algos.TheVariants.{Any};
+ghost use Rattle.digest_kinds.specs.{Bytes.ByteString, Kind.KindValue};
+ghost use Rattle.digest_kinds.specs.declared.algo.Algos.{Algos, TheVariants.Any};
 ghost use Rattle.std.specs.Prelude.{◌≡◌, ◌≤◌, Bool, false, List, ◌∷◌, [], length};
-ghost use Rattle.sum_lines.specs.DigestLine.{line};
 ghost use Rattle.sum_lines.specs.Escape.{escape};
-ghost use Rattle.sum_lines.specs.Output.{pieces};
-ghost use Rattle.sum_lines.specs.declared.reading.read_line.Form.{Form};
-ghost use Rattle.sum_lines.specs.declared.reading.read_line.Form.TheVariants.{Undecided};
-ghost use Rattle.sum_lines.specs.grammar.Entries.{EntryValue, IsEntry};
-ghost use Rattle.sum_lines.specs.grammar.Form.{IsForm};
-ghost use Rattle.sum_lines.specs.grammar.LineLaws.{IsWritable, SpellsBack};
-ghost use Rattle.sum_lines.specs.grammar.ParsedLines.{entry, parse_line};
-ghost use Rattle.sum_lines.specs.grammar.Shapes.{IsTagged};
-ghost use Rattle.sum_settings.specs.declared.style.Mode.TheVariants.{Tag};
-ghost use Rattle.sum_settings.specs.declared.style.Style.{Style};
+ghost use Rattle.sum_lines.specs.declared.reading.read_line.Form.{Form, TheVariants.Undecided};
+ghost use Rattle.sum_lines.specs.grammar.{Entries.EntryValue, Entries.IsEntry, Form.IsForm, LineLaws.IsWritable};
+ghost use Rattle.sum_lines.specs.grammar.{LineLaws.SpellsBack, ParsedLines.entry, ParsedLines.parse_line};
+ghost use Rattle.sum_lines.specs.{grammar.Shapes.IsTagged, sinks.Output.pieces, writing.DigestLine.line};
+ghost use Rattle.sum_settings.specs.declared.style.{Mode.TheVariants.Tag, Style.Style};
 
 use sum_lines::laws;
 

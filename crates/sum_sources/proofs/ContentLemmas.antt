@@ -1,6 +1,6 @@
 -- When a content is its own clip; and a content with more bytes in front.
 use Rattle.std.proofs.Common.{List, ℕ, ◌++◌, ◌≡◌, ◌^◌, ◌<◌, length, refl, arith}
-use Rattle.sum_sources.specs.Input.{Content, clip, limit}
+use Rattle.sum_sources.specs.inputs.Input.{Content, clip, limit}
 
 -- the limit as a number
 pub limit-value : limit ≡ 2 ^ 61

@@ -1,12 +1,11 @@
 -- Bytes cut at their newlines.
 use Rattle.std.proofs.Common.{◌≡◌, ℕ, List, [], ◌∷◌, ◌++◌, refl, ap, ◌∙◌, append_assoc, inl, inr, false, All, arith}
-use Rattle.std.proofs.Common.{rules}
+use Rattle.std.proofs.{Common.rules, lemmas.Bool.Decides.eqb_tells}
 use Rattle.std.proofs.lemmas.List.Elements.{All-nil, All-cons, All-head, All-tail}
-use Rattle.std.proofs.{lemmas.Bool.Decides.eqb_tells}
-use Rattle.std.specs.{Prelude.flat_map, Char.is_newline}
-use Rattle.sum_sources.specs.ManifestLines.{HasNoNewline, last_line, raw_lines}
-use Rattle.sum_sources.specs.{declared.fault.Ending.Ending}
+use Rattle.std.specs.{Char.is_newline, Prelude.flat_map}
 use Rattle.sum_sources.proofs.LineLemmas.{pieces-newline, pieces-last}
+use Rattle.sum_sources.specs.ManifestLines.{HasNoNewline, last_line, raw_lines}
+use Rattle.sum_sources.specs.declared.fault.Ending.{Ending}
 
 -- these pieces, each ended by a newline, and then the tail
 abbrev pub bytes_of_lines : List (List ℕ) → List ℕ → List ℕ

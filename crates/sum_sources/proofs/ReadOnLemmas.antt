@@ -3,16 +3,16 @@ use Rattle.std.proofs.Common.{rules, ◌≡◌, ℕ, zero, suc, ◌+◌, ◌-◌
 use Rattle.std.proofs.Common.{length, take, drop, None, Some, Result, subst, length-drop, Ok, Err, refl, ap, sym, ◌∙◌}
 use Rattle.std.proofs.Common.{append_assoc, arith, length-append}
 use Rattle.std.proofs.Math.Seq.{take-append-add, drop-append_seam}
-use Rattle.std.proofs.{lemmas.List.drop_all, lemmas.List.Elements.All-append}
-use Rattle.std.specs.{Prelude.nat_lt, Prelude.if◌then◌else◌, Char.is_newline, Str.Lines.strip_carriage_return}
-use Rattle.sum_sources.specs.ManifestLines.{Next, Line, NoMore, LineStop, HasNoNewline, IsNextLine, past_line}
+use Rattle.std.proofs.lemmas.List.{drop_all, Elements.All-append}
+use Rattle.std.specs.{Char.is_newline, Prelude.nat_lt, Prelude.if◌then◌else◌, Str.Lines.strip_carriage_return}
+use Rattle.sum_sources.proofs.{ContentLemmas.with_prefix, ContentLemmas.limit-value, LimitLemmas.before_more}
+use Rattle.sum_sources.proofs.LineLemmas.{lines-nil, past_line-piece, IsNextLine-ended}
+use Rattle.sum_sources.specs.Fault.{Ending, Whole, Broken, Fault, Other}
 use Rattle.sum_sources.specs.LineReader.{LineReaderValue, consumed_count, content_past, reads_of, remaining_content}
 use Rattle.sum_sources.specs.LineReader.{IsUnderWay, IsReading, ReadsOn, FillsReader, TakesPiece}
+use Rattle.sum_sources.specs.ManifestLines.{Next, Line, NoMore, LineStop, HasNoNewline, IsNextLine, past_line}
+use Rattle.sum_sources.specs.inputs.Input.{Content, InputState, Reads, Fits, Ended, Past, clip, limit, reads_past}
 use Rattle.sum_sources.specs.private.SizeLimit.{FindsEnding, AddsLimited, AddsPast, CountsBytes}
-use Rattle.sum_sources.specs.Input.{Content, InputState, Reads, Fits, Ended, Past, clip, limit, reads_past}
-use Rattle.sum_sources.specs.Fault.{Ending, Whole, Broken, Fault, Other}
-use Rattle.sum_sources.proofs.LineLemmas.{lines-nil, past_line-piece, IsNextLine-ended}
-use Rattle.sum_sources.proofs.{ContentLemmas.with_prefix, ContentLemmas.limit-value, LimitLemmas.before_more}
 use Rattle.sum_sources.specs.declared.line_reader.LineStop.TheVariants as stops
 
 -- the content without bytes that has this ending

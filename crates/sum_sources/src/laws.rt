@@ -1,10 +1,9 @@
 //! The law of standard input and a source that are in memory, as one source.
 ghost use Rattle.std.specs.Prelude.{◌≡◌, ◌==◌, Some, List, codes};
-ghost use Rattle.sum_sources.specs.Input.{Content};
-ghost use Rattle.sum_sources.specs.WithStdin.{answers_with, answer_of_both, pairs_with_stdin};
-ghost use Rattle.sum_sources.specs.Source.{Answers, Pair, TellsAll, ToldAnswers, names_of, times};
-ghost use Rattle.sum_sources.specs.Stdin.{is_untaken};
-ghost use Rattle.sum_sources.specs.WithStdinView.{both_state, stdin_in};
+ghost use Rattle.sum_sources.specs.inputs.{Input.Content, Stdin.is_untaken};
+ghost use Rattle.sum_sources.specs.sources.Source.{Answers, Pair, TellsAll, ToldAnswers, names_of, times};
+ghost use Rattle.sum_sources.specs.sources.WithStdin.{answers_with, answer_of_both, pairs_with_stdin};
+ghost use Rattle.sum_sources.specs.sources.WithStdinView.{both_state, stdin_in};
 
 use crate::{Input, Source, WithStdin};
 

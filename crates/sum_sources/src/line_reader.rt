@@ -1,8 +1,7 @@
 //! The lines of a manifest, one at a time.
 ghost use Rattle.digest_kinds.specs.Bytes.{LIMIT};
-ghost use Rattle.std.specs.Prelude.{◌≡◌, ◌≤◌, ◌<◌, ◌+◌, [], true, false, length, None, Some, Err, IfOk, IfSome};
-ghost use Rattle.std.specs.Prelude.{OnErr, if◌then◌else◌};
-ghost use Rattle.std.specs.Str.Lines.{strip_carriage_return};
+ghost use Rattle.std.specs.Prelude.{◌≡◌, ◌≤◌, ◌<◌, ◌+◌, [], true, false, length, None, Some, Err, IfOk, IfSome, OnErr};
+ghost use Rattle.std.specs.{Prelude.if◌then◌else◌, Str.Lines.strip_carriage_return};
 
 use crate::inputs::size_limit::read_limited;
 use crate::{Fault, Input, NoRoom, PIECE, Phase};
@@ -86,8 +85,7 @@ fn drop_return<A: Allocator>(line: &mut Vec<u8, A>)
 impl<I: Input> LineReader<I> {
     ghost use Rattle.sum_sources.specs.LineReader.{consumed_count, IsBounded, AdvancesLines, IsReading, ReadsOn};
     ghost use Rattle.sum_sources.specs.LineReader.{FillsReader, TakesPiece};
-    ghost use Rattle.sum_sources.specs.ManifestLines.{lines_after};
-    ghost use Rattle.sum_sources.specs.Input.{Unfinished};
+    ghost use Rattle.sum_sources.specs.{ManifestLines.lines_after, inputs.Input.Unfinished};
     ghost use Rattle.sum_sources.specs.private.SizeLimit.{AddsPast, CountsBytes};
 
     /// Creates a reader of the lines of `input`. If the input has `LIMIT` bytes or more, its first `LIMIT - 1` bytes

@@ -1,12 +1,11 @@
 //! Callers of readers and of told sources that need what no program here does.
-ghost use Rattle.std.specs.Option.{option_map};
-ghost use Rattle.std.specs.Prelude.{ℕ, ◌≡◌, ◌<◌, ◌≤◌, ◌+◌, [], Some, Ok, Err, IfOk, IfSome, IsTrue, max};
-ghost use Rattle.std.specs.Prelude.{codes, slice_get, take};
+ghost use Rattle.std.specs.{Option.option_map, Prelude.ℕ, Prelude.◌≡◌, Prelude.◌<◌};
+ghost use Rattle.std.specs.Prelude.{◌≤◌, ◌+◌, [], Some, Ok, Err, IfOk, IfSome, IsTrue, max, codes, slice_get, take};
 ghost use Rattle.digest_kinds.specs.Bytes.{LIMIT};
 ghost use Rattle.sum_sources.specs.ManifestLines.{HasNoNewline};
-ghost use Rattle.sum_sources.specs.{HashFile.HashesFile, Source.first_answer, Source.names_of};
-ghost use Rattle.sum_sources.specs.WithStdin.{other_openings};
-ghost use Rattle.sum_sources.specs.{WithStdinView.both_state, WithStdinView.source_in, ToldSource.told_source_state};
+ghost use Rattle.sum_sources.specs.sources.{HashFile.HashesFile, Source.first_answer, Source.names_of};
+ghost use Rattle.sum_sources.specs.sources.{ToldSource.told_source_state, WithStdin.other_openings};
+ghost use Rattle.sum_sources.specs.sources.WithStdinView.{both_state, source_in};
 
 use digest_kinds::{Digest, Hasher, LIMIT};
 use std::alloc::Allocator;

@@ -1,8 +1,7 @@
 //! A source in memory that computes its answers.
 ghost use Rattle.std.specs.Prelude.{◌≡◌};
-ghost use Rattle.sum_sources.specs.SourceLaws.{GivesTold-prop};
-ghost use Rattle.sum_sources.specs.Source.{GivesTold};
-ghost use Rattle.sum_sources.specs.Told.{told_state, told_view};
+ghost use Rattle.sum_sources.specs.inputs.Told.{told_state, told_view};
+ghost use Rattle.sum_sources.specs.sources.{Source.GivesTold, SourceLaws.GivesTold-prop};
 ghost use Rattle.sum_sources_tests.specs.Fronts.{fronts_state, tells_fronts};
 
 use sum_sources::{
@@ -19,7 +18,7 @@ pub struct Front<'a> {
 }
 
 impl<'a> Input for Front<'a> {
-    ghost use Rattle.sum_sources.specs.InputLaws.{told_has_content};
+    ghost use Rattle.sum_sources.specs.inputs.InputLaws.{told_has_content};
 
     ghost state = { λ s. record (told_state (told_view s.told)) {
       name = s.log.name;

@@ -1,7 +1,7 @@
 //! An input and a source that do what real ones may: bytes follow an end or a fault, and a name that is opened again is
 //! another file.
 ghost use Rattle.std.specs.Prelude.{◌≡◌};
-ghost use Rattle.sum_sources.specs.Input.{empty_reads};
+ghost use Rattle.sum_sources.specs.inputs.Input.{empty_reads};
 
 use std::alloc::Allocator;
 use std::collections::VecDeque;
@@ -54,7 +54,7 @@ impl<'a> TwoParts<'a> {
 
 impl<'a> Input for TwoParts<'a> {
     ghost use Rattle.std.specs.Prelude.{None};
-    ghost use Rattle.sum_sources.specs.InputLaws.{untold_has_content};
+    ghost use Rattle.sum_sources.specs.inputs.InputLaws.{untold_has_content};
 
     ghost state = { λ s. record s.log { told = None } };
 
@@ -118,8 +118,7 @@ impl<'a, A: Allocator> Source for InTurn<'a, A> {
     type File = TwoParts<'a>;
 
     ghost use Rattle.std.specs.Prelude.{[]};
-    ghost use Rattle.sum_sources.specs.SourceLaws.{untold_gives};
-    ghost use Rattle.sum_sources.specs.Source.{no_answer};
+    ghost use Rattle.sum_sources.specs.sources.{Source.no_answer, SourceLaws.untold_gives};
 
     ghost state = { λ s. record s.log { told = [] } };
 

@@ -1,6 +1,6 @@
 //! Inputs: over readers that fail, in memory, and ones that go on after an end or a fault.
 ghost use Rattle.std.specs.Prelude.{◌≡◌};
-ghost use Rattle.sum_sources.specs.Input.{empty_reads};
+ghost use Rattle.sum_sources.specs.inputs.Input.{empty_reads};
 
 use crate::goes_on::TwoParts;
 use crate::rest::hash_past_header;

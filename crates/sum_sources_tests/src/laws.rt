@@ -1,8 +1,8 @@
 //! What follows from the law of standard input and a source in memory.
 ghost use Rattle.std.specs.Prelude.{List, Some};
-ghost use Rattle.sum_sources.specs.Input.{Content};
-ghost use Rattle.sum_sources.specs.WithStdin.{answers_with, answer_of_both, pairs_with_stdin};
-ghost use Rattle.sum_sources.specs.Source.{Pair, TellsAll, first_answer, answer_of_first};
+ghost use Rattle.sum_sources.specs.inputs.Input.{Content};
+ghost use Rattle.sum_sources.specs.sources.Source.{Pair, TellsAll, first_answer, answer_of_first};
+ghost use Rattle.sum_sources.specs.sources.WithStdin.{answers_with, answer_of_both, pairs_with_stdin};
 
 use sum_sources::laws;
 

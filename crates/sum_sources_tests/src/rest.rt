@@ -1,9 +1,8 @@
 //! Callers that read the header of an input themselves, and hand on the rest of it.
 ghost use Rattle.std.specs.Prelude.{◌≡◌, ◌∷◌, [], drop, take, IfOk, IfSome};
 ghost use Rattle.digest_kinds.specs.Kind.{digest};
-ghost use Rattle.sum_sources.specs.Input.{Content, Fits, clip, empty_reads};
-ghost use Rattle.sum_sources.specs.LineReader.{content_past, remaining_content};
-ghost use Rattle.sum_sources.specs.ManifestLines.{lines};
+ghost use Rattle.sum_sources.specs.{LineReader.content_past, LineReader.remaining_content, ManifestLines.lines};
+ghost use Rattle.sum_sources.specs.inputs.Input.{Content, Fits, clip, empty_reads};
 
 use digest_kinds::{Digest, Hasher};
 use std::alloc::Allocator;

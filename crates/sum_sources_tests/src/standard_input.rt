@@ -1,9 +1,8 @@
 //! Callers of standard input beside a source of files.
 ghost use Rattle.std.specs.Prelude.{◌≡◌, ◌++◌, ◌∷◌, [], false, IsTrue, MatchBool, OnOk};
-ghost use Rattle.sum_sources.specs.WithStdin.{is_dash};
-ghost use Rattle.sum_sources.specs.Source.{names_of};
-ghost use Rattle.sum_sources.specs.Stdin.{given_input, is_untaken, stdin_after_put_back, stdin_after_taking};
-ghost use Rattle.sum_sources.specs.WithStdinView.{source_in, stdin_in};
+ghost use Rattle.sum_sources.specs.inputs.Stdin.{given_input, is_untaken, stdin_after_put_back, stdin_after_taking};
+ghost use Rattle.sum_sources.specs.sources.{Source.names_of, WithStdin.is_dash};
+ghost use Rattle.sum_sources.specs.sources.WithStdinView.{source_in, stdin_in};
 
 use digest_kinds::{Digest, Hasher};
 use sum_sources::laws::stdin_is_taken;

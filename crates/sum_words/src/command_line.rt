@@ -1,14 +1,10 @@
 //! The command line: which tool is asked for, and on which words.
 ghost use Rattle.digest_kinds.specs.Bytes.{ByteString};
-ghost use Rattle.std.specs.List.{after_last};
-ghost use Rattle.std.specs.Option.{option_map};
-ghost use Rattle.std.specs.Prelude.{◌≡◌, ◌==◌, ◌≤◌, ◌<◌, ◌*◌, ◌∷◌, ◌++◌, [], vec_len, take, length, List, Any, IfOk};
-ghost use Rattle.std.specs.Prelude.{IfSome, OnOk, OnErr, MatchResult};
-ghost use Rattle.std.specs.Str.{byte};
-ghost use Rattle.std.specs.declared.env.FillError.TheVariants.{TooLong};
-ghost use Rattle.sum_words.specs.Arguments.{FitsArguments};
-ghost use Rattle.sum_words.specs.CommandLine.{command_line, NeedsMemory, command_line_value};
-ghost use Rattle.sum_words.specs.declared.command_line.TheConstants.{PAGE};
+ghost use Rattle.std.specs.{List.after_last, Option.option_map, Prelude.◌≡◌, Prelude.◌==◌};
+ghost use Rattle.std.specs.Prelude.{◌≤◌, ◌<◌, ◌*◌, ◌∷◌, ◌++◌, [], vec_len, take, length, List, Any, IfOk, IfSome, OnOk};
+ghost use Rattle.std.specs.{Prelude.OnErr, Prelude.MatchResult, Str.byte, declared.env.FillError.TheVariants.TooLong};
+ghost use Rattle.sum_words.specs.{Arguments.FitsArguments, CommandLine.command_line, CommandLine.NeedsMemory};
+ghost use Rattle.sum_words.specs.{CommandLine.command_line_value, declared.command_line.TheConstants.PAGE};
 ghost use Rattle.sum_words.specs.private.CommandLine.{Fails, Gives, FindsTool};
 
 use crate::arguments::Arguments;

@@ -2,9 +2,8 @@
 ghost use Rattle.digest_kinds.specs.Bytes.{ByteString};
 ghost use Rattle.std.specs.List.{AllPass};
 ghost use Rattle.std.specs.Prelude.{◌≡◌, not, List, ◌∷◌, ◌++◌, map, codes};
-ghost use Rattle.sum_words.specs.Arguments.{FitsArguments};
+ghost use Rattle.sum_words.specs.{Arguments.FitsArguments, declared.tool.Tool.Tool};
 ghost use Rattle.sum_words.specs.parsing.Items.{operand, a_word, is_option_word, items_from};
-ghost use Rattle.sum_words.specs.declared.tool.Tool.{Tool};
 
 use crate::arguments::Arguments;
 

@@ -1,7 +1,6 @@
 //! The tools and their names.
 ghost use Rattle.std.specs.Prelude.{◌≡◌, ◌↔◌, Some, Ok, IfSome};
-ghost use Rattle.sum_words.specs.Tool.{name_of, algos_of, tool_called};
-ghost use Rattle.sum_words.specs.declared.tool.Tool.{Tool};
+ghost use Rattle.sum_words.specs.{Tool.name_of, Tool.algos_of, Tool.tool_called, declared.tool.Tool.Tool};
 
 use digest_kinds::{Algo, Algos};
 use std::fmt;

@@ -1,6 +1,5 @@
 //! Lists of words, and the iterator over one.
-ghost use Rattle.std.specs.Iterator.{YieldsFirstRef, item_count};
-ghost use Rattle.std.specs.Option.{option_copied};
+ghost use Rattle.std.specs.{Iterator.YieldsFirstRef, Iterator.item_count, Option.option_copied};
 ghost use Rattle.std.specs.Prelude.{◌≡◌, ◌↔◌, ◌<◌, [], ◌∷◌, ◌++◌, IsTrue, OnOk, OnErr, OnSome, length, drop, slice_get};
 ghost use Rattle.std.specs.Prelude.{slice_index};
 ghost use Rattle.sum_words.specs.Words.{pieces_cut, CutsAt};

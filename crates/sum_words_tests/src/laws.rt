@@ -2,8 +2,8 @@
 ghost use Rattle.std.specs.List.{AllPass};
 ghost use Rattle.std.specs.Prelude.{◌≡◌, not, List, ◌∷◌, ◌++◌, map, codes};
 ghost use Rattle.digest_kinds.specs.Bytes.{ByteString};
-ghost use Rattle.sum_words.specs.parsing.Items.{operand, a_word, is_option_word, items_from};
 ghost use Rattle.sum_words.specs.declared.tool.Tool.{Tool};
+ghost use Rattle.sum_words.specs.parsing.Items.{operand, a_word, is_option_word, items_from};
 
 use sum_words::laws::plain_words_are_operands;
 

@@ -66,7 +66,7 @@ impl AnyHasher {
 }
 
 impl Hasher for AnyHasher {
-    ghost use Rattle.digest_kinds.specs.AnyHasher.{hasher_in, taken-length};
+    ghost use Rattle.digest_kinds.specs.hashers.AnyHasher.{hasher_in, taken-length};
 
     ghost holds = { λ h. (hasher_in h).holds };
 

@@ -1,13 +1,11 @@
 //! Hashers for MD5, SHA-1 and SHA-2, which count the bytes of the message beside the state of the digest.
 
-ghost use Rattle.digest_kinds.specs.Algo.{full_len};
-ghost use Rattle.digest_kinds.specs.Bytes.{ByteString};
-ghost use Rattle.digest_kinds.specs.Kind.{digest, full_kind};
+ghost use Rattle.digest_kinds.specs.{Algo.full_len, Bytes.ByteString, Kind.digest, Kind.full_kind};
 ghost use Rattle.digest_kinds.specs.declared.algo.Algo.{Algo};
-ghost use Rattle.digest_kinds.specs.declared.algo.Algo.TheVariants as algos;
 ghost use Rattle.md5.specs.Md5.{Holds as HoldsMd5};
 ghost use Rattle.sha1.specs.Sha1.{Holds as HoldsSha1};
 ghost use Rattle.std.specs.Prelude.{◌≡◌, ℕ, [], ◌++◌, length};
+ghost use Rattle.digest_kinds.specs.declared.algo.Algo.TheVariants as algos;
 
 use crate::algo::Algo;
 use crate::digest::Digest;

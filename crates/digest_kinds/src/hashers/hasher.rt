@@ -1,7 +1,6 @@
 //! The trait of a hasher.
 
-ghost use Rattle.digest_kinds.specs.Bytes.{ByteString, LIMIT};
-ghost use Rattle.digest_kinds.specs.Kind.{KindValue, digest};
+ghost use Rattle.digest_kinds.specs.{Bytes.ByteString, Bytes.LIMIT, Kind.KindValue, Kind.digest};
 ghost use Rattle.std.specs.Prelude.{◌≡◌, ◌↔◌, ℕ, ◌+◌, ◌<◌, ◌++◌, length, IsOk, OnOk, OnErr};
 
 use crate::digest::Digest;

@@ -4,8 +4,9 @@ use Rattle.std.specs.Prelude.{if◌then◌else◌, bytes_eq, slice_range, map}
 use Rattle.digest_kinds.specs.{Bytes.ByteString, declared.algo.Algos.Algos}
 use Rattle.sum_lines.specs.grammar.{Entries.EntryValue, Form.form}
 use Rattle.sum_lines.specs.grammar.ParsedLines.{ParsedLine, ignored, bad, entry, parse_line}
-use Rattle.sum_sources.specs.{Input.Content, ManifestLines.lines, Source.AnswerValue, WithStdin.is_dash}
+use Rattle.sum_sources.specs.ManifestLines.{lines}
 use Rattle.sum_sources.specs.declared.fault.Fault.{Fault, TheVariants.NotFound}
+use Rattle.sum_sources.specs.{inputs.Input.Content, sources.Source.AnswerValue, sources.WithStdin.is_dash}
 use Rattle.sum_engine.specs.Behavior.{World, answer_to, world_after, digest_or_fault}
 use Rattle.sum_engine.specs.check.Rules.{CheckRules}
 pub use Rattle.sum_engine.specs.declared.check.judge.{LineVerdict.LineVerdict, Verdict.Verdict}

@@ -1,11 +1,13 @@
 -- What checking writes about a line.
-use Rattle.std.specs.{Prelude.ℕ, Prelude.[], Prelude.◌∷◌, Prelude.decimal, Prelude.codes, List.concat}
-use Rattle.digest_kinds.specs.{Algo.tag, declared.algo.Algos.Algos, declared.algo.Algos.TheVariants.One}
-use Rattle.digest_kinds.specs.{declared.algo.Algos.TheVariants.Any, Bytes.ByteString}
-use Rattle.sum_lines.specs.{grammar.Shapes.mark, Escape.escape, Escape.escape_differs}
+use Rattle.std.specs.List.{concat}
+use Rattle.std.specs.Prelude.{ℕ, [], ◌∷◌, decimal, codes}
+use Rattle.digest_kinds.specs.{Algo.tag, Bytes.ByteString}
+use Rattle.digest_kinds.specs.declared.algo.Algos.{Algos, TheVariants.One, TheVariants.Any}
+use Rattle.sum_lines.specs.{Escape.escape, Escape.escape_differs, grammar.Shapes.mark}
 use Rattle.sum_settings.specs.declared.settings.Report.{Report, TheVariants.Quiet, TheVariants.Warn, TheVariants.Status}
-use Rattle.sum_engine.specs.{ToolLines.name_fault_line, check.Rules.LabelsValue, check.Rules.CheckRules}
+use Rattle.sum_engine.specs.ToolLines.{name_fault_line}
 use Rattle.sum_engine.specs.check.Judge.{Verdict, Bad, Right, Wrong, Unread, LineVerdictValue}
+use Rattle.sum_engine.specs.check.Rules.{LabelsValue, CheckRules}
 
 -- NAME: TEXT, after a backslash if the name's escape differs from it
 abbrev pub name_line : ByteString → ByteString → ByteString

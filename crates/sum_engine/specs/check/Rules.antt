@@ -2,7 +2,7 @@
 use Rattle.std.specs.Prelude.{Bool, codes, if◌then◌else◌}
 use Rattle.digest_kinds.specs.Bytes.{ByteString}
 use Rattle.sum_settings.specs.declared.settings.{CheckSettings.CheckSettings, Report.Report}
-use Rattle.sum_sources.specs.WithStdin.{is_dash}
+use Rattle.sum_sources.specs.sources.WithStdin.{is_dash}
 pub use Rattle.sum_engine.specs.declared.check.rules.CheckRules.{CheckRules}
 
 -- what the reports of a manifest show: the tool's name, the manifest's, and which lines

@@ -4,10 +4,10 @@ use Rattle.digest_kinds.specs.Bytes.{ByteString}
 use Rattle.sum_settings.specs.declared.stop.NoRoom.{NoRoom}
 use Rattle.sum_lines.specs.grammar.Entries.{EntryValue}
 use Rattle.sum_sources.specs.declared.{fault.Fault.TheVariants.NotFound, sources.hash_file.HashFault.HashFault}
+use Rattle.sum_engine.specs.check.Judge.{Verdict, Right, Wrong, Missing, Unread}
+use Rattle.sum_engine.specs.declared.check.judge.ListedEntry.{ListedEntry}
 use Rattle.sum_sources.specs.declared.sources.hash_file.HashFault.TheVariants as hashing
 use Rattle.sum_sources.specs.declared.sources.source.OpenFault.TheVariants as faults
-use Rattle.sum_engine.specs.declared.check.judge.ListedEntry.{ListedEntry}
-use Rattle.sum_engine.specs.check.Judge.{Verdict, Right, Wrong, Missing, Unread}
 
 -- the entry that a line spells
 abbrev pub listed_entry : ListedEntry → EntryValue

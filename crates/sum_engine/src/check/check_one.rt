@@ -3,9 +3,8 @@ ghost use Rattle.std.specs.Prelude.{◌≡◌, true, None, Ok, IfErr, codes, if�
 ghost use Rattle.sum_engine.specs.Execution.{Performs, ReadsToEndIf};
 ghost use Rattle.sum_engine.specs.Streams.{StopHasCause, none_or_one};
 ghost use Rattle.sum_engine.specs.check.CheckOne.{StopsAtLine, check_behavior};
-ghost use Rattle.sum_engine.specs.check.Verdicts.{IsAtStart};
-ghost use Rattle.sum_engine.specs.private.CheckOne.{RunsManifest};
-ghost use Rattle.sum_sources.specs.WithStdin.{is_dash};
+ghost use Rattle.sum_engine.specs.{check.Verdicts.IsAtStart, private.CheckOne.RunsManifest};
+ghost use Rattle.sum_sources.specs.sources.WithStdin.{is_dash};
 
 use crate::check::checker::Checker;
 use crate::check::progress::Progress;

@@ -3,10 +3,7 @@ ghost use Rattle.digest_kinds.specs.Bytes.{LIMIT};
 ghost use Rattle.std.specs.Option.{ForSome};
 ghost use Rattle.std.specs.Prelude.{◌≡◌, ◌≤◌, None, Ok, IsTrue};
 ghost use Rattle.std.specs.Result.{ForOk};
-ghost use Rattle.sum_engine.specs.check.Checker.{ReportsFound};
-ghost use Rattle.sum_engine.specs.check.Judge.{HasNameRange};
-ghost use Rattle.sum_engine.specs.check.Rules.{rules_of};
-ghost use Rattle.sum_engine.specs.check.Verdicts.{is_whole};
+ghost use Rattle.sum_engine.specs.check.{Checker.ReportsFound, Judge.HasNameRange, Rules.rules_of, Verdicts.is_whole};
 
 use crate::check::judge::{LineVerdict, Verdict};
 use crate::check::progress::Progress;

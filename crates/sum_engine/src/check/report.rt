@@ -1,12 +1,8 @@
 //! The lines that checking writes about a manifest's lines.
-ghost use Rattle.std.specs.List.{concat};
-ghost use Rattle.std.specs.Prelude.{◌≡◌, [], ◌∷◌};
-ghost use Rattle.sum_engine.specs.Streams.{WritesAndReturns};
-ghost use Rattle.sum_engine.specs.check.Checker.{Going};
+ghost use Rattle.std.specs.{List.concat, Prelude.◌≡◌, Prelude.[], Prelude.◌∷◌};
+ghost use Rattle.sum_engine.specs.{Streams.WritesAndReturns, check.Checker.Going};
 ghost use Rattle.sum_engine.specs.check.Report.{bad_line, err_by, out_by, tag_word};
-ghost use Rattle.sum_lines.specs.Escape.{escape, escape_differs};
-ghost use Rattle.sum_lines.specs.Output.{GivesAll};
-ghost use Rattle.sum_lines.specs.grammar.Shapes.{mark};
+ghost use Rattle.sum_lines.specs.{Escape.escape, Escape.escape_differs, grammar.Shapes.mark, sinks.Output.GivesAll};
 ghost use Rattle.sum_settings.specs.declared.settings.Report.TheVariants.{All};
 
 use crate::check::judge::Verdict;

@@ -1,10 +1,9 @@
 //! The end of a manifest.
 ghost use Rattle.digest_kinds.specs.Bytes.{LIMIT};
 ghost use Rattle.std.specs.Prelude.{◌≡◌, ◌≤◌, []};
-ghost use Rattle.sum_engine.specs.Streams.{WritesAndReturns};
-ghost use Rattle.sum_engine.specs.check.Counts.{total};
+ghost use Rattle.sum_engine.specs.{Streams.WritesAndReturns, check.Counts.total};
 ghost use Rattle.sum_engine.specs.check.Summary.{end_text, unverified_line, warning, warnings};
-ghost use Rattle.sum_lines.specs.Buffered.{WritesAll};
+ghost use Rattle.sum_lines.specs.sinks.Buffered.{WritesAll};
 ghost use Rattle.sum_sources.specs.declared.fault.Ending.TheVariants.{Whole};
 
 use crate::check::counts::Counts;

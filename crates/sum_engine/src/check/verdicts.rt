@@ -1,8 +1,7 @@
 //! The verdicts of a manifest, without any text.
 ghost use Rattle.digest_kinds.specs.Bytes.{LIMIT};
 ghost use Rattle.std.specs.Prelude.{◌≡◌, ◌≤◌, ◌<◌, ◌&&◌, None, IfOk, IfSome, MatchResult};
-ghost use Rattle.sum_engine.specs.check.Counts.{counts_and_line, total};
-ghost use Rattle.sum_engine.specs.check.Rules.{rules_of};
+ghost use Rattle.sum_engine.specs.check.{Counts.counts_and_line, Counts.total, Rules.rules_of};
 
 use crate::check::counts::{Counts, is_good};
 use crate::check::judge::{LineVerdict, ListedEntry, Verdict, judge};
@@ -28,8 +27,7 @@ pub struct Verdicts<I> {
 impl<I> Model for Verdicts<I> {
     ghost use Rattle.digest_kinds.specs.Bytes.{LIMIT};
     ghost use Rattle.std.specs.Prelude.{◌≡◌, ◌≤◌};
-    ghost use Rattle.sum_engine.specs.check.Counts.{total};
-    ghost use Rattle.sum_engine.specs.check.Verdicts.{VerdictsValue};
+    ghost use Rattle.sum_engine.specs.check.{Counts.total, Verdicts.VerdictsValue};
 
     ghost Value = { VerdictsValue I };
 
@@ -47,11 +45,10 @@ impl<I> Model for Verdicts<I> {
 impl<I: Input> Verdicts<I> {
     ghost use Rattle.sum_engine.specs.Behavior.{World};
     ghost use Rattle.sum_engine.specs.Execution.{Agrees, AsksNames, ReadsToEndIf, RefusesMemory, world_at};
-    ghost use Rattle.sum_engine.specs.check.Judge.{HasNameRange, asks_of, line_verdict, line_verdict_value};
     ghost use Rattle.sum_engine.specs.check.Counts.{good};
-    ghost use Rattle.sum_engine.specs.check.Verdicts.{AdvancesVerdicts, HoldsInEachCheck, IsAtStart};
-    ghost use Rattle.sum_engine.specs.check.Verdicts.{IsNextVerdict, IsNotUnread, KeepsOutcome};
-    ghost use Rattle.sum_engine.specs.check.Verdicts.{is_whole, outcome_in_next};
+    ghost use Rattle.sum_engine.specs.check.Judge.{HasNameRange, asks_of, line_verdict, line_verdict_value};
+    ghost use Rattle.sum_engine.specs.check.Verdicts.{AdvancesVerdicts, HoldsInEachCheck, IsAtStart, IsNextVerdict};
+    ghost use Rattle.sum_engine.specs.check.Verdicts.{IsNotUnread, KeepsOutcome, is_whole, outcome_in_next};
     ghost use Rattle.sum_engine.specs.private.Verdicts.{TakesLine, found_verdict, parsed_at};
     ghost use Rattle.sum_sources.specs.declared.fault.Ending.TheVariants.{Whole};
 

@@ -2,8 +2,8 @@
 use Rattle.std.specs.Prelude.{ℕ, ◌≡◌, ◌<◌, ◌⊎◌, ◌==◌, Bool, true, [], ◌∷◌, IsTrue, if◌then◌else◌, All}
 use Rattle.std.specs.Str.{byte}
 use Rattle.digest_kinds.specs.{Bytes.ByteString, Kind.KindValue, declared.algo.Algos.Algos}
-use Rattle.sum_lines.specs.grammar.Shapes.{IsPlain, IsTagged}
 use Rattle.sum_lines.specs.grammar.Form.{Form, Undecided, Standard, Reversed, begins_standard}
+use Rattle.sum_lines.specs.grammar.Shapes.{IsPlain, IsTagged}
 
 -- whether a line is ignored: it is empty or begins with `#`
 abbrev pub is_ignored : ByteString → Bool

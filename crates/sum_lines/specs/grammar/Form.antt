@@ -1,6 +1,7 @@
 -- The form of a list of lines: its first plain line decides it.
+use Rattle.std.specs.Option.{option_map_or}
 use Rattle.std.specs.Prelude.{◌≡◌, ◌⊎◌, ◌==◌, ◌||◌, Bool, false, List, [], ◌∷◌, if◌then◌else◌}
-use Rattle.std.specs.{Option.option_map_or, Str.byte}
+use Rattle.std.specs.Str.{byte}
 use Rattle.digest_kinds.specs.{Bytes.ByteString, Kind.KindValue, declared.algo.Algos.Algos}
 use Rattle.sum_lines.specs.grammar.{LineParts.plain_parts, Shapes.IsPlain}
 pub use Rattle.sum_lines.specs.declared.reading.read_line.Form.{Form}

@@ -5,10 +5,11 @@ use Rattle.hex.specs.Hex.{IsBytes}
 use Rattle.digest_kinds.specs.{Algo.has_len, Bytes.ByteString, Kind.KindValue}
 use Rattle.digest_kinds.specs.declared.algo.{Algo.Algo, Algos.Algos, Algos.TheVariants.One, Algos.TheVariants.Any}
 use Rattle.sum_settings.specs.declared.style.Mode.{Mode, TheVariants.Tag}
-use Rattle.sum_lines.specs.{DigestLine.line, Escape.escape, grammar.Shapes.IsPlain, grammar.Shapes.IsTagged}
-use Rattle.sum_lines.specs.grammar.Form.{Form, Undecided, Standard, IsForm, form}
+use Rattle.sum_lines.specs.Escape.{escape}
 use Rattle.sum_lines.specs.grammar.Entries.{EntryValue, IsEntry, is_ignored}
+use Rattle.sum_lines.specs.grammar.Form.{Form, Undecided, Standard, IsForm, form}
 use Rattle.sum_lines.specs.grammar.ParsedLines.{ParsedLine, ignored, entry, parse_line}
+use Rattle.sum_lines.specs.{grammar.Shapes.IsPlain, grammar.Shapes.IsTagged, writing.DigestLine.line}
 
 -- for given algorithms and a given form a line spells at most one entry
 abbrev pub HasOneEntry : Type 0

@@ -1,12 +1,9 @@
 //! The steps by which a line is read from its start.
 
 ghost use Rattle.digest_kinds.specs.Bytes.{after_while};
-ghost use Rattle.std.specs.List.{prefix_len};
-ghost use Rattle.std.specs.Option.{option_copied, option_map};
-ghost use Rattle.std.specs.Path.{rsplit_once};
+ghost use Rattle.std.specs.{List.prefix_len, Option.option_copied, Option.option_map, Path.rsplit_once};
 ghost use Rattle.std.specs.Prelude.{◌≡◌, ◌≤◌, length};
-ghost use Rattle.sum_lines.specs.grammar.LineParts.{strip_prefix, mark_and_rest};
-ghost use Rattle.sum_lines.specs.grammar.Shapes.{is_blank};
+ghost use Rattle.sum_lines.specs.grammar.{LineParts.strip_prefix, LineParts.mark_and_rest, Shapes.is_blank};
 
 use digest_kinds::{Digest, Kind};
 use memchr::memrchr;
@@ -43,8 +40,7 @@ pub(crate) struct Front {
 impl Front {
     ghost use Rattle.digest_kinds.specs.Bytes.{after_while};
     ghost use Rattle.std.specs.Prelude.{◌≡◌};
-    ghost use Rattle.sum_lines.specs.grammar.LineParts.{mark_and_rest};
-    ghost use Rattle.sum_lines.specs.grammar.Shapes.{is_blank};
+    ghost use Rattle.sum_lines.specs.grammar.{LineParts.mark_and_rest, Shapes.is_blank};
     ghost use Rattle.sum_lines.specs.private.Beginnings.{IsFront};
 
     /// What precedes the line's text.

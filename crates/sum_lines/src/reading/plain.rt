@@ -1,11 +1,9 @@
 //! Plain lines: digits, a blank, a tail.
 
-ghost use Rattle.digest_kinds.specs.Algo.{has_len};
-ghost use Rattle.digest_kinds.specs.Bytes.{after_while};
+ghost use Rattle.digest_kinds.specs.{Algo.has_len, Bytes.after_while};
 ghost use Rattle.std.specs.Option.{option_map};
 ghost use Rattle.std.specs.Prelude.{◌≡◌, ◌≤◌, IfSome, if◌then◌else◌, length, Some, None};
-ghost use Rattle.sum_lines.specs.grammar.LineParts.{mark_and_rest, plain_parts};
-ghost use Rattle.sum_lines.specs.grammar.Shapes.{is_blank};
+ghost use Rattle.sum_lines.specs.grammar.{LineParts.mark_and_rest, LineParts.plain_parts, Shapes.is_blank};
 ghost use Rattle.sum_lines.specs.private.Beginnings.{EndsDigits, IsFront, line_parts};
 
 use crate::reading::line_parts::{Front, LineParts};

@@ -1,10 +1,8 @@
 //! One line of a manifest.
 
-ghost use Rattle.std.specs.List.{list_all};
-ghost use Rattle.std.specs.Option.{option_and_then, option_map_or};
+ghost use Rattle.std.specs.{List.list_all, Option.option_and_then, Option.option_map_or};
 ghost use Rattle.std.specs.Prelude.{◌≡◌, ◌≤◌, None, Some, drop, if◌then◌else◌, nat_lt, not, take, vec_len};
-ghost use Rattle.sum_lines.specs.grammar.Entries.{is_ignored};
-ghost use Rattle.sum_lines.specs.grammar.Form.{begins_standard, form_then, line_form};
+ghost use Rattle.sum_lines.specs.grammar.{Entries.is_ignored, Form.begins_standard, Form.form_then, Form.line_form};
 ghost use Rattle.sum_lines.specs.grammar.LineLaws.{FitsGrammar};
 ghost use Rattle.sum_lines.specs.grammar.ParsedLines.{bad, entry, entry_of, entry_of_parts, parse_line, unescape};
 ghost use Rattle.sum_lines.specs.grammar.ParsedLines.{parts_with_raw_name, parsed_line_of, IsWithin};

@@ -4,8 +4,7 @@ ghost use Rattle.digest_kinds.specs.Bytes.{after_while};
 ghost use Rattle.std.specs.Option.{option_copied, option_map, option_or};
 ghost use Rattle.std.specs.Prelude.{◌≡◌, ◌≤◌, codes, length, IfSome, Some};
 ghost use Rattle.sum_lines.specs.grammar.LineParts.{mark_and_rest, strip_prefix, tag_in, tagged_parts};
-ghost use Rattle.sum_lines.specs.grammar.Shapes.{is_blank};
-ghost use Rattle.sum_lines.specs.private.Beginnings.{IsFront, line_parts};
+ghost use Rattle.sum_lines.specs.{grammar.Shapes.is_blank, private.Beginnings.IsFront, private.Beginnings.line_parts};
 
 use crate::reading::line_parts::{Front, LineParts, after_prefix, skip_blanks, split_at_last};
 use digest_kinds::{Algo, Algos, Digest, Kind};

@@ -1,7 +1,7 @@
 //! A buffer over a sink.
 ghost use Rattle.std.specs.Prelude.{◌≡◌, ◌<◌, ◌≤◌, ◌-◌, ◌+◌, ◌++◌, [], length, min, take, IsTrue, OnErr, MatchResult};
-ghost use Rattle.sum_lines.specs.Buffered.{Accepts, FailsToWrite, IsFlushed, WritesAll, MakesRoom};
-ghost use Rattle.sum_lines.specs.Output.{GivesAll};
+ghost use Rattle.sum_lines.specs.sinks.Buffered.{Accepts, FailsToWrite, IsFlushed, WritesAll, MakesRoom};
+ghost use Rattle.sum_lines.specs.sinks.Output.{GivesAll};
 
 use crate::sinks::sink::{Sink, SinkFault, give_all};
 use std::marker::Model;
@@ -24,8 +24,7 @@ pub struct Buffered<S: Sink> {
 
 impl<S: Sink> Model for Buffered<S> {
     ghost use Rattle.std.specs.Prelude.{◌≤◌, take};
-    ghost use Rattle.sum_lines.specs.Buffered.{BufferState};
-    ghost use Rattle.sum_lines.specs.declared.sinks.buffered.TheConstants.{CAPACITY};
+    ghost use Rattle.sum_lines.specs.{declared.sinks.buffered.TheConstants.CAPACITY, sinks.Buffered.BufferState};
 
     ghost Value = { BufferState };
 

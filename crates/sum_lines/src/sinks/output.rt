@@ -1,8 +1,7 @@
 //! An output, to which whole texts are written.
 ghost use Rattle.digest_kinds.specs.Bytes.{ByteString};
 ghost use Rattle.std.specs.Prelude.{◌≡◌, true, IsTrue};
-ghost use Rattle.sum_lines.specs.Buffered.{WritesAll};
-ghost use Rattle.sum_lines.specs.Output.{GivesAll};
+ghost use Rattle.sum_lines.specs.sinks.{Buffered.WritesAll, Output.GivesAll};
 
 use crate::sinks::buffered::Buffered;
 use crate::sinks::sink::{Sink, SinkFault};
@@ -25,8 +24,7 @@ pub struct Output<S: Sink> {
 }
 
 impl<S: Sink> Model for Output<S> {
-    ghost use Rattle.sum_lines.specs.Buffered.{IsFlushed};
-    ghost use Rattle.sum_lines.specs.Output.{OutputState};
+    ghost use Rattle.sum_lines.specs.sinks.{Buffered.IsFlushed, Output.OutputState};
 
     ghost Value = { OutputState };
 

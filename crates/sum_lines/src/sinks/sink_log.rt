@@ -13,7 +13,7 @@ pub struct SinkCalls;
 
 impl Model for SinkCalls {
     ghost use Rattle.std.specs.Prelude.{true, []};
-    ghost use Rattle.sum_lines.specs.Sink.{SinkState};
+    ghost use Rattle.sum_lines.specs.sinks.Sink.{SinkState};
 
     ghost Value = { SinkState };
 

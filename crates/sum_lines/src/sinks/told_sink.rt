@@ -16,7 +16,7 @@ pub struct ToldSink<const N: usize> {
 
 impl<const N: usize> Model for ToldSink<N> {
     ghost use Rattle.std.specs.Prelude.{◌≤◌, ◌-◌, take};
-    ghost use Rattle.sum_lines.specs.ToldSink.{ToldSinkValue};
+    ghost use Rattle.sum_lines.specs.sinks.ToldSink.{ToldSinkValue};
 
     ghost Value = { ToldSinkValue };
 
@@ -56,7 +56,7 @@ impl<const N: usize> ToldSink<N> {
 
 impl<const N: usize> Sink for ToldSink<N> {
     ghost use Rattle.std.specs.Prelude.{Ok};
-    ghost use Rattle.sum_lines.specs.Sink.{WritesSome, Flushes};
+    ghost use Rattle.sum_lines.specs.sinks.Sink.{WritesSome, Flushes};
 
     ghost state = { λ s. s.state };
 

@@ -1,7 +1,6 @@
 //! Texts written in parts.
 ghost use Rattle.std.specs.Prelude.{decimal};
-ghost use Rattle.sum_lines.specs.Buffered.{WritesAll};
-ghost use Rattle.sum_lines.specs.Parts.{part_text, joined_text};
+ghost use Rattle.sum_lines.specs.{sinks.Buffered.WritesAll, writing.Parts.part_text, writing.Parts.joined_text};
 
 use crate::escape::put_escaped;
 use crate::sinks::buffered::{Buffered, put_all};
@@ -25,7 +24,7 @@ pub enum Part<'a> {
 pub struct Parts<'a>(pub &'a [Part<'a>]);
 
 impl<'a> Text for Parts<'a> {
-    ghost use Rattle.sum_lines.specs.Parts.{joined_text};
+    ghost use Rattle.sum_lines.specs.writing.Parts.{joined_text};
 
     ghost text = { λ parts. joined_text parts.0.now };
 

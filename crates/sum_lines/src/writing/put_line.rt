@@ -1,11 +1,8 @@
 //! The line that is written for a name and its digest.
 ghost use Rattle.hex.specs.Hex.{encode_lower};
 ghost use Rattle.std.specs.Prelude.{◌≡◌, length};
-ghost use Rattle.sum_lines.specs.Buffered.{WritesAll};
-ghost use Rattle.sum_lines.specs.DigestLine.{layout, line};
-ghost use Rattle.sum_lines.specs.Escape.{escape, escape_differs};
-ghost use Rattle.sum_lines.specs.Parts.{part_text};
-ghost use Rattle.sum_lines.specs.grammar.Shapes.{mark};
+ghost use Rattle.sum_lines.specs.{Escape.escape, Escape.escape_differs, grammar.Shapes.mark, sinks.Buffered.WritesAll};
+ghost use Rattle.sum_lines.specs.writing.{DigestLine.layout, DigestLine.line, Parts.part_text};
 
 use crate::escape::needs_escape;
 use crate::sinks::buffered::{Buffered, put_all};
@@ -30,7 +27,7 @@ pub struct DigestLine<'a> {
 }
 
 impl<'a> Text for DigestLine<'a> {
-    ghost use Rattle.sum_lines.specs.DigestLine.{line};
+    ghost use Rattle.sum_lines.specs.writing.DigestLine.{line};
 
     ghost text = { λ l. line l.style l.kind l.name.now l.digest.now };
 

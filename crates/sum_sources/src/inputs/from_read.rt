@@ -1,6 +1,6 @@
 //! Inputs over the readers of `std`.
 ghost use Rattle.std.specs.Prelude.{◌≡◌};
-ghost use Rattle.sum_sources.specs.Input.{no_reads};
+ghost use Rattle.sum_sources.specs.inputs.Input.{no_reads};
 
 use crate::FromRead;
 use crate::inputs::input_log::{InputCalls, InputLog};

@@ -1,6 +1,6 @@
 //! The digest of an input.
 ghost use Rattle.std.specs.Prelude.{◌≡◌, [], length, IfOk};
-ghost use Rattle.sum_sources.specs.HashInput.{HashesInput};
+ghost use Rattle.sum_sources.specs.inputs.HashInput.{HashesInput};
 
 use crate::inputs::size_limit::read_limited;
 use crate::{Fault, Input, PIECE};

@@ -1,6 +1,6 @@
 //! The trait of an input, how far one was read, and how much is read at once.
 ghost use Rattle.std.specs.Prelude.{◌≡◌, ◌≤◌, length, IfOk};
-ghost use Rattle.sum_sources.specs.Input.{InputState, HasContent, phase_after, state_after_read};
+ghost use Rattle.sum_sources.specs.inputs.Input.{InputState, HasContent, phase_after, state_after_read};
 
 use crate::{Ending, Fault};
 

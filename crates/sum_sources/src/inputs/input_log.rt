@@ -1,5 +1,5 @@
 //! The log of an input.
-ghost use Rattle.sum_sources.specs.Input.{InputState, no_reads, state_after_read};
+ghost use Rattle.sum_sources.specs.inputs.Input.{InputState, no_reads, state_after_read};
 
 use crate::Fault;
 use ghost_log::{Log, Notes};

@@ -1,7 +1,6 @@
 //! Reading up to the limit of 2^61 bytes.
 ghost use Rattle.digest_kinds.specs.Bytes.{LIMIT};
-ghost use Rattle.std.specs.Prelude.{◌<◌, ◌≡◌, length, take};
-ghost use Rattle.std.specs.Result.{result_unwrap_or};
+ghost use Rattle.std.specs.{Prelude.◌<◌, Prelude.◌≡◌, Prelude.length, Prelude.take, Result.result_unwrap_or};
 ghost use Rattle.sum_sources.specs.declared.inputs.input.TheConstants.{PIECE};
 ghost use Rattle.sum_sources.specs.private.SizeLimit.{CountsLimited, CountsBytes, AddsPast};
 

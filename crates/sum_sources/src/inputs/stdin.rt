@@ -1,7 +1,7 @@
 //! Standard input, which a run gets once.
 ghost use Rattle.std.specs.Prelude.{◌≡◌, IsTrue, None};
-ghost use Rattle.sum_sources.specs.Stdin.{GivesUnread, StdinPlace, given_input};
-ghost use Rattle.sum_sources.specs.Stdin.{stdin_after_taking, stdin_after_put_back};
+ghost use Rattle.sum_sources.specs.inputs.Stdin.{GivesUnread, StdinPlace, given_input, stdin_after_taking};
+ghost use Rattle.sum_sources.specs.inputs.Stdin.{stdin_after_put_back};
 
 use crate::fault::EBADF;
 use crate::{Ending, Fault, Input, Phase};
@@ -50,8 +50,8 @@ impl<I> Model for Given<I> {
 impl<I: Input> Stdin<I> {
     ghost use Rattle.std.specs.Prelude.{false, Some};
     ghost use Rattle.sum_sources.specs.Fault.{bad_descriptor};
-    ghost use Rattle.sum_sources.specs.Input.{empty_reads};
     ghost use Rattle.sum_sources.specs.declared.inputs.stdin.Closable.TheVariants.{Open, Closed};
+    ghost use Rattle.sum_sources.specs.inputs.Input.{empty_reads};
 
     /// Creates a standard input that gives `input`, which hasn't been read, when it is taken.
     pub fn new(input: I) -> Self
@@ -102,8 +102,7 @@ impl<I: Input + Drop> Stdin<I> {
 }
 
 impl<I: Input> Input for Given<I> {
-    ghost use Rattle.sum_sources.specs.InputLaws.{closable_has_content};
-    ghost use Rattle.sum_sources.specs.Stdin.{closable_state};
+    ghost use Rattle.sum_sources.specs.inputs.{InputLaws.closable_has_content, Stdin.closable_state};
 
     ghost state = { λ s. closable_state I.state s };
 

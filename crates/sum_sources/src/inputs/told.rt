@@ -1,8 +1,6 @@
 //! An input in memory.
 ghost use Rattle.std.specs.Prelude.{◌≡◌, ◌≤◌, [], length, max, IfOk};
-ghost use Rattle.sum_sources.specs.Fault.{Ending};
-ghost use Rattle.sum_sources.specs.Input.{GivesFrom, told_reads};
-ghost use Rattle.sum_sources.specs.Input.{Ended};
+ghost use Rattle.sum_sources.specs.{Fault.Ending, inputs.Input.GivesFrom, inputs.Input.told_reads, inputs.Input.Ended};
 
 use crate::inputs::input_log::{InputCalls, InputLog, ReadNote};
 use crate::{Ending, Fault, Input, Phase};
@@ -25,8 +23,7 @@ pub struct Told<'a> {
 }
 
 impl<'a> Told<'a> {
-    ghost use Rattle.sum_sources.specs.Input.{empty_reads};
-    ghost use Rattle.sum_sources.specs.Told.{told_state, told_view};
+    ghost use Rattle.sum_sources.specs.inputs.{Input.empty_reads, Told.told_state, Told.told_view};
 
     /// Creates an input of the bytes `content`, at most `piece` per read (0 counts as 1), and then `ending`.
     pub fn new(content: &'a [u8], ending: Ending, piece: usize) -> Told<'a>
@@ -104,8 +101,7 @@ fn give(
 }
 
 impl<'a> Input for Told<'a> {
-    ghost use Rattle.sum_sources.specs.Input.{state_after_read};
-    ghost use Rattle.sum_sources.specs.Told.{told_state, told_view};
+    ghost use Rattle.sum_sources.specs.inputs.{Input.state_after_read, Told.told_state, Told.told_view};
 
     ghost state = { λ s. told_state (told_view s) };
 
@@ -122,7 +118,7 @@ impl<'a> Input for Told<'a> {
         result
     }
 
-    ghost use Rattle.sum_sources.specs.InputLaws.{told_has_content};
+    ghost use Rattle.sum_sources.specs.inputs.InputLaws.{told_has_content};
 
     ghost has_content = { λ s. told_has_content (told_view s) };
 }

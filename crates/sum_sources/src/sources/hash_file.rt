@@ -1,6 +1,6 @@
 //! The digest of the file of a name.
 ghost use Rattle.std.specs.Prelude.{◌≡◌, [], length, IfOk};
-ghost use Rattle.sum_sources.specs.HashFile.{HashesFile};
+ghost use Rattle.sum_sources.specs.sources.HashFile.{HashesFile};
 
 use crate::{Fault, OpenFault, PIECE, Source, hash_input_over};
 use digest_kinds::{Digest, Hasher};

@@ -1,6 +1,6 @@
 //! What opening a name gives.
 ghost use Rattle.std.specs.Prelude.{◌≡◌};
-ghost use Rattle.sum_sources.specs.{WithStdin.is_dash, Place.is_stdin, Place.place_state};
+ghost use Rattle.sum_sources.specs.sources.{Place.is_stdin, Place.place_state, WithStdin.is_dash};
 
 use crate::inputs::input_log::InputLog;
 use crate::{Fault, Given, Input};
@@ -45,8 +45,7 @@ impl<I: Input, F: Input> Opened<I, F> {
 }
 
 impl<I: Input, F: Input> Input for Opened<I, F> {
-    ghost use Rattle.sum_sources.specs.InputLaws.{opened_has_content};
-    ghost use Rattle.sum_sources.specs.Opened.{opened_state};
+    ghost use Rattle.sum_sources.specs.{inputs.InputLaws.opened_has_content, sources.Opened.opened_state};
 
     ghost state = { opened_state };
 

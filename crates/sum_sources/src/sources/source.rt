@@ -1,7 +1,7 @@
 //! The trait of a source of files, and why a file could not be opened.
 ghost use Rattle.std.specs.Prelude.{◌≡◌, IfOk};
-ghost use Rattle.sum_sources.specs.Source.{SourceState, ToldAnswers, GivesTold, IsOpen};
-ghost use Rattle.sum_sources.specs.Source.{opened_file, state_after_opening, state_after_closing};
+ghost use Rattle.sum_sources.specs.sources.Source.{SourceState, ToldAnswers, GivesTold, IsOpen, opened_file};
+ghost use Rattle.sum_sources.specs.sources.Source.{state_after_opening, state_after_closing};
 
 use crate::{Fault, Input};
 use thiserror::Error;

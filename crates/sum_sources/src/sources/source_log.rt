@@ -1,6 +1,6 @@
 //! The log of a source.
 ghost use Rattle.std.specs.Prelude.{◌≡◌};
-ghost use Rattle.sum_sources.specs.Source.{opened_file, no_answer};
+ghost use Rattle.sum_sources.specs.sources.Source.{opened_file, no_answer};
 
 use crate::inputs::input_log::{InputCalls, InputLog};
 use crate::{Fault, Input, Source};
@@ -12,11 +12,11 @@ use std::marker::Model;
 pub struct SourceCalls;
 
 impl Model for SourceCalls {
-    ghost use Rattle.sum_sources.specs.Source.{SourceState};
+    ghost use Rattle.sum_sources.specs.sources.Source.{SourceState};
 
     ghost Value = { SourceState };
 
-    ghost use Rattle.sum_sources.specs.SourceLog.{no_openings};
+    ghost use Rattle.sum_sources.specs.sources.Source.{no_openings};
 
     ghost view = { λ _. no_openings };
 }
@@ -38,7 +38,7 @@ pub enum Note<'a> {
 }
 
 impl<'a> Notes<Note<'a>> for SourceCalls {
-    ghost use Rattle.sum_sources.specs.SourceLog.{state_after_note};
+    ghost use Rattle.sum_sources.specs.sources.SourceLog.{state_after_note};
 
     ghost after_note = { λ source note. state_after_note source note };
 }
@@ -48,7 +48,7 @@ impl<'a> Notes<Note<'a>> for SourceCalls {
 pub struct ClosedFile<'a, F>(pub &'a F);
 
 impl<'a, F: Input> Notes<ClosedFile<'a, F>> for SourceCalls {
-    ghost use Rattle.sum_sources.specs.Source.{state_after_closing};
+    ghost use Rattle.sum_sources.specs.sources.Source.{state_after_closing};
 
     ghost after_note = { λ source note. state_after_closing source (F.state note.0.now) };
 }
@@ -58,7 +58,7 @@ impl<'a, F: Input> Notes<ClosedFile<'a, F>> for SourceCalls {
 pub(crate) struct OthersOf<'a, S>(pub(crate) &'a S);
 
 impl<'a, S: Source> Notes<OthersOf<'a, S>> for SourceCalls {
-    ghost use Rattle.sum_sources.specs.WithStdin.{state_without_dash};
+    ghost use Rattle.sum_sources.specs.sources.WithStdin.{state_without_dash};
 
     ghost after_note = { λ _ note. state_without_dash (S.state note.0.now) };
 }

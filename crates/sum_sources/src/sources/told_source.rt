@@ -2,9 +2,9 @@
 ghost use Rattle.std.specs.Option.{option_map};
 ghost use Rattle.std.specs.Prelude.{◌≡◌, ◌≤◌, ◌++◌, ◌∷◌, [], OnOk, OnErr, length, map, slice_get};
 ghost use Rattle.std.specs.Vec.{VecUnchanged};
-ghost use Rattle.sum_sources.specs.SourceLaws.{GivesTold-prop};
-ghost use Rattle.sum_sources.specs.Source.{GivesTold, first_answer, names_of, answer_of_first, times};
-ghost use Rattle.sum_sources.specs.StoredPair.{pair_view, answer_view, state_with_pairs};
+ghost use Rattle.sum_sources.specs.sources.Source.{GivesTold, first_answer, names_of, answer_of_first, times};
+ghost use Rattle.sum_sources.specs.sources.SourceLaws.{GivesTold-prop};
+ghost use Rattle.sum_sources.specs.sources.StoredPair.{pair_view, answer_view, state_with_pairs};
 
 use crate::sources::source_log::{Note, SourceCalls, SourceLog, next_file};
 use crate::{Ending, Fault, Input, NoRoom, OpenFault, Source, Told};
@@ -67,8 +67,7 @@ fn answer_to<'a, A: Allocator>(
 }
 
 impl<'a, A: Allocator + Copy> ToldSource<'a, A> {
-    ghost use Rattle.sum_sources.specs.SourceLog.{no_openings};
-    ghost use Rattle.sum_sources.specs.ToldSource.{told_source_state};
+    ghost use Rattle.sum_sources.specs.sources.{Source.no_openings, ToldSource.told_source_state};
 
     /// Creates a source without names, whose files give at most `piece` bytes per read (0 counts as 1).
     pub fn new(alloc: A, piece: usize) -> ToldSource<'a, A>
@@ -128,7 +127,7 @@ fn add_name<A: Allocator + Copy>(
 impl<'a, A: Allocator + Copy> Source for ToldSource<'a, A> {
     type File = Told<'a>;
 
-    ghost use Rattle.sum_sources.specs.ToldSource.{told_source_state};
+    ghost use Rattle.sum_sources.specs.sources.ToldSource.{told_source_state};
 
     ghost state = { told_source_state };
 

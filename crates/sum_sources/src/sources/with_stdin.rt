@@ -1,6 +1,6 @@
 //! Standard input and a source of files, as one source.
 ghost use Rattle.std.specs.Prelude.{◌≡◌};
-ghost use Rattle.sum_sources.specs.WithStdin.{IsSoundWithStdin, is_dash};
+ghost use Rattle.sum_sources.specs.sources.WithStdin.{IsSoundWithStdin, is_dash};
 
 use crate::sources::opened::{Opened, Place};
 use crate::sources::source_log::{ClosedFile, Note, OthersOf, SourceCalls, SourceLog, next_file};
@@ -23,9 +23,9 @@ pub struct WithStdin<I: Input, S: Source> {
 }
 
 impl<I: Input, S: Source> WithStdin<I, S> {
-    ghost use Rattle.sum_sources.specs.WithStdin.{other_openings, pairs_with_stdin, state_without_dash};
-    ghost use Rattle.sum_sources.specs.WithStdinView.{both_state, source_in, stdin_in};
-    ghost use Rattle.sum_sources.specs.Stdin.{given_input, is_untaken, closable_state};
+    ghost use Rattle.sum_sources.specs.inputs.Stdin.{given_input, is_untaken, closable_state};
+    ghost use Rattle.sum_sources.specs.sources.WithStdin.{other_openings, pairs_with_stdin, state_without_dash};
+    ghost use Rattle.sum_sources.specs.sources.WithStdinView.{both_state, source_in, stdin_in};
     ghost use Rattle.std.specs.Prelude.{IsTrue};
 
     /// Creates the inputs with this standard input, which hasn't been taken, and this source. What the source opened
@@ -70,9 +70,8 @@ pub fn is_dash(name: &[u8]) -> bool
 }
 
 impl<I: Input + Drop, S: Source> Source for WithStdin<I, S> {
-    ghost use Rattle.sum_sources.specs.WithStdin.{answer_of_both};
-    ghost use Rattle.sum_sources.specs.WithStdinView.{both_state, source_in, stdin_in};
-    ghost use Rattle.sum_sources.specs.SourceLaws.{with_stdin_gives};
+    ghost use Rattle.sum_sources.specs.sources.{SourceLaws.with_stdin_gives, WithStdin.answer_of_both};
+    ghost use Rattle.sum_sources.specs.sources.WithStdinView.{both_state, source_in, stdin_in};
 
     type File = Opened<I, S::File>;
 
@@ -81,9 +80,8 @@ impl<I: Input + Drop, S: Source> Source for WithStdin<I, S> {
     ghost tells = { answer_of_both S.tells };
 
     ghost use Rattle.std.specs.Prelude.{IfOk, MatchBool, MatchResult};
-    ghost use Rattle.sum_sources.specs.Place.{TakesStdin};
-    ghost use Rattle.sum_sources.specs.Opened.{opened_state, place_in};
-    ghost use Rattle.sum_sources.specs.Source.{state_after_opening, opened_file};
+    ghost use Rattle.sum_sources.specs.sources.{Opened.opened_state, Opened.place_in, Place.TakesStdin};
+    ghost use Rattle.sum_sources.specs.sources.Source.{state_after_opening, opened_file};
 
     /// Opens the name: `-` gives what [`Stdin::take`] gives, and any other name is opened in the source.
     fn open_file(&mut self, name: &[u8]) -> Result<Opened<I, S::File>, OpenFault>
@@ -118,8 +116,7 @@ impl<I: Input + Drop, S: Source> Source for WithStdin<I, S> {
         }
     }
 
-    ghost use Rattle.sum_sources.specs.Place.{parts_after_closing};
-    ghost use Rattle.sum_sources.specs.Source.{IsOpen, state_after_closing};
+    ghost use Rattle.sum_sources.specs.sources.{Place.parts_after_closing, Source.IsOpen, Source.state_after_closing};
 
     fn close_file(&mut self, file: Opened<I, S::File>)
         requires { IsOpen (answer_of_both S.tells) (both_state self.old) (opened_state file) }

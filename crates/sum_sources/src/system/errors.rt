@@ -1,6 +1,5 @@
 //! What an error of the system means.
-ghost use Rattle.std.specs.IoError.{error_kind, raw_os_error};
-ghost use Rattle.std.specs.Prelude.{◌≡◌};
+ghost use Rattle.std.specs.{IoError.error_kind, IoError.raw_os_error, Prelude.◌≡◌};
 ghost use Rattle.sum_sources.specs.Fault.{fault_of_error};
 
 use crate::Fault;

@@ -1,7 +1,6 @@
 //! Real files. Nothing else can open one, or set the log of what was opened.
 ghost use Rattle.std.specs.Prelude.{◌≡◌};
-ghost use Rattle.sum_sources.specs.SourceLog.{no_openings};
-ghost use Rattle.sum_sources.specs.Source.{SourceState};
+ghost use Rattle.sum_sources.specs.sources.Source.{no_openings, SourceState};
 
 use crate::fault::EILSEQ;
 use crate::sources::source_log::{Note, SourceCalls, SourceLog, next_file};
@@ -43,8 +42,7 @@ where
     type File = FromRead<R::File>;
 
     ghost use Rattle.std.specs.Prelude.{[]};
-    ghost use Rattle.sum_sources.specs.SourceLaws.{untold_gives};
-    ghost use Rattle.sum_sources.specs.Source.{no_answer};
+    ghost use Rattle.sum_sources.specs.sources.{Source.no_answer, SourceLaws.untold_gives};
 
     ghost state = { λ s. record s { told = [] } };
 

@@ -1,10 +1,8 @@
 //! An input over a reader of `std`. Nothing else can call the reader, or set the log of what it gave.
 ghost use Rattle.std.specs.Io.KnownBytes.{Consumes, ReadConsumes};
 ghost use Rattle.std.specs.Prelude.{◌≡◌, ◌≤◌, length, IfOk, IfSome, None};
-ghost use Rattle.sum_sources.specs.Input.{Ended};
-ghost use Rattle.sum_sources.specs.FromRead.{FromReadValue};
-ghost use Rattle.sum_sources.specs.Fault.{Whole};
-ghost use Rattle.sum_sources.specs.Input.{state_after_read, empty_reads};
+ghost use Rattle.sum_sources.specs.{Fault.Whole, inputs.FromRead.FromReadValue};
+ghost use Rattle.sum_sources.specs.inputs.Input.{Ended, state_after_read, empty_reads};
 
 use crate::inputs::input_log::{InputLog, ReadNote};
 use crate::system::errors::fault_of;
@@ -72,7 +70,7 @@ fn read_uninterrupted<R: Read>(reader: &mut R, buf: &mut [u8]) -> Result<usize, 
 }
 
 impl<R: Read> Input for FromRead<R> {
-    ghost use Rattle.sum_sources.specs.InputLaws.{untold_has_content};
+    ghost use Rattle.sum_sources.specs.inputs.InputLaws.{untold_has_content};
 
     ghost state = { λ s. record s.log { told = None } };
 

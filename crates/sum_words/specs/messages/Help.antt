@@ -1,10 +1,9 @@
 -- The texts of --help and --version.
 use Rattle.std.specs.Prelude.{[], ◌-◌, ◌++◌, codes, flat_map, if◌then◌else◌, length, replicate, bytes_eq}
 use Rattle.std.specs.Str.{byte}
-use Rattle.digest_kinds.specs.{Bytes.ByteString, Algo.tag}
+use Rattle.digest_kinds.specs.{Algo.tag, Bytes.ByteString}
 use Rattle.digest_kinds.specs.declared.algo.Algos.{Algos, TheVariants.One, TheVariants.Any}
-use Rattle.sum_words.specs.declared.{tool.Tool.Tool, parsing.options.Flag.Flag}
-use Rattle.sum_words.specs.{Tool.name_of, Tool.algos_of}
+use Rattle.sum_words.specs.{Tool.name_of, Tool.algos_of, declared.parsing.options.Flag.Flag, declared.tool.Tool.Tool}
 use Rattle.sum_words.specs.parsing.Options.{row_of, takes_value, flags_of}
 
 -- what a tool with these algorithms is for

@@ -3,8 +3,8 @@ use Rattle.std.specs.Prelude.{ℕ, ◌≡◌, ◌<◌, ◌≤◌, List, [], ◌�
 use Rattle.std.specs.Prelude.{IsSomeAnd, Result, Ok, Err}
 use Rattle.std.specs.declared.env.FillError.{FillError, TheVariants.NotPresent, TheVariants.TooLong}
 use Rattle.digest_kinds.specs.Bytes.{ByteString}
-use Rattle.sum_words.specs.{Arguments.ArgumentsState, Arguments.FitsArguments, CommandLine.command_line}
-use Rattle.sum_words.specs.declared.tool.Tool.{Tool}
+use Rattle.sum_words.specs.Arguments.{ArgumentsState, FitsArguments}
+use Rattle.sum_words.specs.{CommandLine.command_line, declared.tool.Tool.Tool}
 
 -- what a `fill` returns: the buffer starts with the argument at the place, or that is longer, or there is none
 abbrev pub Fills : List ByteString → ℕ → ByteString → Result ℕ FillError → Type 0

@@ -1,7 +1,6 @@
 //! The two lines that report a fault of the words.
 ghost use Rattle.std.specs.Prelude.{◌≡◌, ◌++◌};
-ghost use Rattle.sum_lines.specs.Buffered.{WritesAll};
-ghost use Rattle.sum_lines.specs.Parts.{part_text};
+ghost use Rattle.sum_lines.specs.{sinks.Buffered.WritesAll, writing.Parts.part_text};
 ghost use Rattle.sum_words.specs.messages.FaultLines.{fault_lines, wording};
 ghost use Rattle.sum_words.specs.parsing.WordFault.{WordFaultValue, word_fault_value};
 

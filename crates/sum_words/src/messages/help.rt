@@ -1,10 +1,8 @@
 //! The help and the version text.
 ghost use Rattle.std.specs.Prelude.{◌≡◌, ◌-◌, ◌∷◌, ◌++◌, [], codes, filter, flat_map, if◌then◌else◌, replicate};
 ghost use Rattle.std.specs.Str.{byte};
-ghost use Rattle.sum_lines.specs.Buffered.{WritesAll};
-ghost use Rattle.sum_lines.specs.Parts.{part_text};
-ghost use Rattle.sum_words.specs.Tool.{algos_of};
-ghost use Rattle.sum_words.specs.declared.messages.help.TheConstants.{NAME_COLUMNS};
+ghost use Rattle.sum_lines.specs.{sinks.Buffered.WritesAll, writing.Parts.part_text};
+ghost use Rattle.sum_words.specs.{Tool.algos_of, declared.messages.help.TheConstants.NAME_COLUMNS};
 ghost use Rattle.sum_words.specs.messages.Help.{help, help_line, letter_column, purpose, version};
 ghost use Rattle.sum_words.specs.parsing.Options.{has_option, row_of, takes_value};
 

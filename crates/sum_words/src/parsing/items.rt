@@ -1,14 +1,12 @@
 //! The items of a tool's words, and those that are operands.
 ghost use Rattle.digest_kinds.specs.Bytes.{ByteString};
 ghost use Rattle.std.specs.Iterator.{YieldsFirstBy, YieldsFirstRef, item_count};
-ghost use Rattle.std.specs.List.{starts_with};
-ghost use Rattle.std.specs.Option.{option_copied};
+ghost use Rattle.std.specs.{List.starts_with, Option.option_copied};
 ghost use Rattle.std.specs.Prelude.{◌≡◌, ◌==◌, List, [], ◌∷◌, IsTrue, MatchOption, drop, length, false, filter_map};
 ghost use Rattle.std.specs.Str.{chars};
 ghost use Rattle.sum_words.specs.declared.tool.Tool.{Tool};
-ghost use Rattle.sum_words.specs.parsing.Items.{a_word, name_part, value_part, long_option, cluster};
-ghost use Rattle.sum_words.specs.parsing.Items.{is_option_word, items_from, operand_in};
-ghost use Rattle.sum_words.specs.parsing.Options.{name_or_fault};
+ghost use Rattle.sum_words.specs.parsing.Items.{a_word, name_part, value_part, long_option, cluster, is_option_word};
+ghost use Rattle.sum_words.specs.parsing.{Items.items_from, Items.operand_in, Options.name_or_fault};
 ghost use Rattle.sum_words.specs.private.Items.{attached_value, remaining_items, step_items, item_value};
 
 use crate::parsing::options::{Flag, Spelling};
@@ -55,8 +53,7 @@ enum ParserStep<'a> {
 
 impl<'a> Model for Items<'a> {
     ghost use Rattle.std.specs.Prelude.{List};
-    ghost use Rattle.sum_words.specs.parsing.Items.{ItemValue};
-    ghost use Rattle.sum_words.specs.private.Items.{remaining_items};
+    ghost use Rattle.sum_words.specs.{parsing.Items.ItemValue, private.Items.remaining_items};
 
     ghost Value = { List ItemValue };
 

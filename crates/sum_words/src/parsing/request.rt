@@ -1,7 +1,5 @@
 //! What the words ask for: settings and operands, help, version, or a fault.
-ghost use Rattle.std.specs.Char.{is_ascii_digit};
-ghost use Rattle.std.specs.List.{list_all};
-ghost use Rattle.std.specs.Option.{option_map};
+ghost use Rattle.std.specs.{Char.is_ascii_digit, List.list_all, Option.option_map};
 ghost use Rattle.std.specs.Prelude.{◌≡◌, ◌∷◌, List, [], filter_map};
 ghost use Rattle.sum_words.specs.parsing.Items.{ItemValue, a_word, items_from, option, option_in};
 ghost use Rattle.sum_words.specs.parsing.Request.{length_kind, mode_of, fault_of_options, request_of_options, request};

@@ -1,7 +1,6 @@
 use Rattle.std.proofs.Common.{◌∙◌, arith}
-use Rattle.blake2b_core.proofs.CompressionLemmas.{picked-row}
-use Rattle.blake2b_core.proofs.compression.schedule.Goals.{in-0, in-1, in-2, in-3, in-4, in-5, in-6, in-7, in-8}
-use Rattle.blake2b_core.proofs.compression.schedule.Goals.{in_default}
+use Rattle.blake2b_core.proofs.{CompressionLemmas.picked-row, compression.schedule.Goals.in-0}
+use Rattle.blake2b_core.proofs.compression.schedule.Goals.{in-1, in-2, in-3, in-4, in-5, in-6, in-7, in-8, in_default}
 use Rattle.blake2b_core.proofs.compression.schedule.Goals as goal
 
 -- each row of SIGMA in turn

@@ -1,5 +1,5 @@
 use Rattle.std.proofs.Common.{rules, All, [], ◌∷◌, codes, append-nil, refl}
-use Rattle.digest_kinds.specs.declared.{algo.Algo.TheVariants.Md5, algo.Algos.TheVariants.One}
+use Rattle.digest_kinds.specs.declared.algo.{Algo.TheVariants.Md5, Algos.TheVariants.One}
 use Rattle.sum_settings.specs.declared.style.Mode.TheVariants.{Text}
 use Rattle.sum_words.specs.declared.tool.Tool.TheVariants.{Md5sum}
 use Rattle.sum_words_tests.proofs.WorkedExamples.{words_on_literals}

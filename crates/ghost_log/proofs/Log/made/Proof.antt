@@ -15,9 +15,10 @@ use denote.Shadow.{pure_i}
 use denote.Signature.{plain, types_at}
 use denote.Triple.Entry.{alive}
 use denote.Triple.Walked.{says, stay_none_ref, Stays, ends_at, Goes-none_ref}
-use Rattle.ghost_log.specs.{contracts.Log.the_row as Row, contracts.Log.made.ended, contracts.Log.made.clauses}
-use Rattle.ghost_log.specs.contracts.Log.made.Key.{name as #self}
 use Rattle.ghost_log.proofs.Log.made.Statement.{statement}
+use Rattle.ghost_log.specs.contracts.Log.{the_row as Row}
+use Rattle.ghost_log.specs.contracts.Log.made.{ended, clauses}
+use Rattle.ghost_log.specs.contracts.Log.made.Key.{name as #self}
 use Rattle.ghost_log.proofs.Log.made.Code as code
 
 pub made_spec : {M : Type 1} → statement M

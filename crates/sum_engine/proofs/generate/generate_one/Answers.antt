@@ -1,7 +1,9 @@
-use Rattle.std.proofs.{Common.refl, Common.true, Common.false, Common.Ok, Common.Err, lemmas.Result.err_from_is_err_and}
-use Rattle.sum_engine.{specs.Behavior.World, specs.Generate.generate_behavior, proofs.BehaviorLemmas.Performs-step}
-use Rattle.sum_engine.proofs.{BehaviorLemmas.Performs-refused, HashLemmas.hashes_name, GenerateLemmas.fault_found}
-use Rattle.sum_engine.proofs.{GenerateLemmas.one_step, GenerateLemmas.refused_memory, WorldLemmas.reads_weaker}
+use Rattle.std.proofs.Common.{refl, true, false, Ok, Err}
+use Rattle.std.proofs.lemmas.Result.{err_from_is_err_and}
+use Rattle.sum_engine.proofs.BehaviorLemmas.{Performs-step, Performs-refused}
+use Rattle.sum_engine.proofs.GenerateLemmas.{fault_found, one_step, refused_memory}
+use Rattle.sum_engine.proofs.{HashLemmas.hashes_name, WorldLemmas.reads_weaker}
+use Rattle.sum_engine.specs.{Behavior.World, Generate.generate_behavior}
 use Rattle.sum_engine.proofs.generate.generate_one.Goals as goal
 
 -- the name was read, and its line written

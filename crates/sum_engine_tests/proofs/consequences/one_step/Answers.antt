@@ -1,4 +1,4 @@
-use Rattle.sum_engine.{specs.check.Judge.line_verdict_value, proofs.StepLemmas.going_found}
+use Rattle.sum_engine.{proofs.StepLemmas.going_found, specs.check.Judge.line_verdict_value}
 use Rattle.sum_engine_tests.proofs.consequences.one_step.Goals as goal
 
 pub returns-clause-line : goal.returns-clause-line

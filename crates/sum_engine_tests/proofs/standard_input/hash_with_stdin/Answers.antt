@@ -1,7 +1,7 @@
-use Rattle.std.{proofs.Common.arith, proofs.Common.◌≡◌, proofs.Common.◌+◌, specs.Prelude.if◌then◌else◌}
-use Rattle.std.proofs.lemmas.{Result.on_ok_weaker, Slice.Eq.bytes_eq-Decides}
-use Rattle.sum_sources.specs.WithStdin.{is_dash}
-use Rattle.sum_engine.{specs.Execution.world_at, specs.Generate.generate_behavior, proofs.BehaviorLemmas.kinds}
+use Rattle.std.proofs.Common.{arith, ◌≡◌, ◌+◌}
+use Rattle.std.{proofs.lemmas.Result.on_ok_weaker, proofs.lemmas.Slice.Eq.bytes_eq-Decides, specs.Prelude.if◌then◌else◌}
+use Rattle.sum_sources.specs.sources.WithStdin.{is_dash}
+use Rattle.sum_engine.{proofs.BehaviorLemmas.kinds, specs.Execution.world_at, specs.Generate.generate_behavior}
 use Rattle.sum_engine_tests.proofs.DashLemmas.{dashes, dashes-append, opened}
 use Rattle.sum_engine_tests.proofs.standard_input.hash_with_stdin.Goals as goal
 

@@ -1,5 +1,5 @@
 use Rattle.std.proofs.Common.{length}
-use Rattle.sum_lines.{specs.Escape.escape, proofs.SinkLemmas.HasLeft}
+use Rattle.sum_lines.{proofs.SinkLemmas.HasLeft, specs.Escape.escape}
 use Rattle.sum_lines.proofs.escape.put_escaped.Given as goal
 
 -- all but the escape of the rest was accepted

@@ -1,5 +1,5 @@
 use Rattle.std.proofs.Common.{rules}
-use Rattle.sum_lines.proofs.{PlainLemmas.one_shape, ParsedLineLemmas.one_entry}
+use Rattle.sum_lines.proofs.{ParsedLineLemmas.one_entry, PlainLemmas.one_shape}
 use Rattle.sum_lines.proofs.laws.one_entry.Goals as goal
 
 -- a line spells one entry at most, and has one shape at most

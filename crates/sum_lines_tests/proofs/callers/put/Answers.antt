@@ -1,9 +1,8 @@
 use Rattle.std.proofs.Common.{arith, ◌<◌, ◌+◌, ℕ, List, Result, Ok, Err, length, length-append, ap, sym, ◌∙◌}
-use Rattle.std.proofs.Common.{filter_map}
-use Rattle.std.{specs.Prelude.OnOk, specs.Prelude.OnErr, specs.Prelude.⊤, proofs.lemmas.List.Elements.filter_map-append}
-use Rattle.sum_lines.specs.Buffered.{BufferState, WritesAll}
-use Rattle.sum_lines.specs.Output.{written_byte}
+use Rattle.std.proofs.{Common.filter_map, lemmas.List.Elements.filter_map-append}
+use Rattle.std.specs.Prelude.{OnOk, OnErr, ⊤}
 use Rattle.sum_lines.proofs.EventLemmas.{output_events-bytes}
+use Rattle.sum_lines.specs.sinks.{Buffered.BufferState, Buffered.WritesAll, Output.written_byte}
 use Rattle.sum_lines_tests.proofs.callers.put.Goals as goal
 
 -- some bytes of a text that isn't empty are still buffered

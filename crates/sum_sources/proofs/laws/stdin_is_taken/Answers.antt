@@ -1,4 +1,4 @@
-use Rattle.std.{proofs.Math.Logic.∥∥₁_elim, proofs.Props.props}
+use Rattle.std.proofs.{Math.Logic.∥∥₁_elim, Props.props}
 use Rattle.sum_sources.proofs.WithStdinLemmas.{taken_if}
 use Rattle.sum_sources.proofs.laws.stdin_is_taken.Goals as goal
 

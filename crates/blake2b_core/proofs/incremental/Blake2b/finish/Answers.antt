@@ -1,6 +1,5 @@
 use Rattle.std.proofs.Common.{◌≡◌, ◌∙◌, arith}
-use Rattle.blake2b_core.specs.Digest.{count_before_last}
-use Rattle.blake2b_core.proofs.BlockLemmas.{blake2b-from}
+use Rattle.blake2b_core.{proofs.BlockLemmas.blake2b-from, specs.Digest.count_before_last}
 use Rattle.blake2b_core.proofs.incremental.Blake2b.finish.Goals as goal
 
 -- what is buffered is the last block

@@ -1,5 +1,4 @@
-use Rattle.std.proofs.Common.{◌++◌, subst, arith}
-use Rattle.std.proofs.lemmas.{Grind.common_steps, List.nil_from_length}
+use Rattle.std.proofs.{Common.◌++◌, Common.subst, Common.arith, lemmas.Grind.common_steps, lemmas.List.nil_from_length}
 use Rattle.blake2b_core.specs.Blake2b.{HoldsSoFar}
 use Rattle.blake2b_core.proofs.incremental.Blake2b.update.Goals as goal
 

@@ -1,5 +1,4 @@
-use Rattle.digest_kinds.specs.Algo.{all_algos}
-use Rattle.digest_kinds.proofs.TagLemmas.{IfSome-find-begins}
+use Rattle.digest_kinds.{proofs.TagLemmas.IfSome-find-begins, specs.Algo.all_algos}
 use Rattle.digest_kinds.proofs.algo.Algo.of_tag_prefix.Goals as goal
 
 -- the tag of what the search finds begins the bytes

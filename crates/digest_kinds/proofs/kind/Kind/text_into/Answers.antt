@@ -1,5 +1,5 @@
 use Rattle.std.proofs.Common.{rules, arith}
-use Rattle.digest_kinds.proofs.{KindTextLemmas.IsUtf8-kind_text, KindLemmas.has_len-full}
+use Rattle.digest_kinds.proofs.{KindLemmas.has_len-full, KindTextLemmas.IsUtf8-kind_text}
 use Rattle.digest_kinds.proofs.kind.Kind.text_into.Goals as goal
 
 -- what was written is the text, so it is UTF-8

@@ -1,5 +1,5 @@
 use Rattle.std.proofs.Common.{arith}
-use Rattle.sum_lines.{specs.grammar.ParsedLines.entry_of, proofs.ParsedLineLemmas.matches}
+use Rattle.sum_lines.{proofs.ParsedLineLemmas.matches, specs.grammar.ParsedLines.entry_of}
 use Rattle.sum_lines.proofs.reading.read_line.read_line.Goals as goal
 
 -- a line that begins neither with a tag nor with digits is bad

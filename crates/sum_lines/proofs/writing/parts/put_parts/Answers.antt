@@ -1,5 +1,5 @@
 use Rattle.std.proofs.{Common.arith, lemmas.List.at_drop_more}
-use Rattle.sum_lines.{specs.Parts.joined_text, proofs.SinkLemmas.HasLeft-step, proofs.SinkLemmas.HasLeft-failed}
+use Rattle.sum_lines.{proofs.SinkLemmas.HasLeft-step, proofs.SinkLemmas.HasLeft-failed, specs.writing.Parts.joined_text}
 use Rattle.sum_lines.proofs.writing.parts.put_parts.Goals as goal
 
 -- the write of a part failed

@@ -1,5 +1,5 @@
 use Rattle.std.proofs.Common.{drop}
-use Rattle.sum_lines.{specs.Parts.joined_text, proofs.SinkLemmas.HasLeft}
+use Rattle.sum_lines.{proofs.SinkLemmas.HasLeft, specs.writing.Parts.joined_text}
 use Rattle.sum_lines.proofs.writing.parts.put_parts.Given as goal
 
 -- all but the text of the later parts was accepted

@@ -1,5 +1,5 @@
 use Rattle.std.proofs.Common.{◌≡◌, ℕ, ◌^◌, ◌<◌, ◌-◌, ◌++◌, List}
-use Rattle.sum_sources.specs.{Input.IsSameInput, Input.Unfinished}
+use Rattle.sum_sources.specs.inputs.Input.{IsSameInput, Unfinished}
 use Rattle.sum_sources.proofs.inputs.hash_input.hash_input_over.Given as goal
 
 -- the hasher's message is what was read of the input

@@ -1,5 +1,5 @@
 use Rattle.std.proofs.Common.{arith, refl, ◌≡◌, ◌+◌, ◌++◌, ℕ, List, length, take, drop, ◌-◌, length-drop}
-use Rattle.std.proofs.{Math.Seq.take-append_seam, Math.Seq.take-add, lemmas.List.take_all, lemmas.Grind.common_steps}
+use Rattle.std.proofs.{Math.Seq.take-append_seam, Math.Seq.take-add, lemmas.Grind.common_steps, lemmas.List.take_all}
 use Rattle.sum_sources.proofs.inputs.told.give.Goals as goal
 
 -- the bytes that were copied are those that come next

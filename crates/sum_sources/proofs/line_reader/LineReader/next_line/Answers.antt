@@ -1,11 +1,10 @@
-use Rattle.std.proofs.lemmas.Grind.{common_steps}
 use Rattle.std.proofs.Common.{ap, arith, ◌≡◌, length, Some, Err}
-use Rattle.sum_sources.specs.{LineReader.IsBounded, declared.inputs.input.TheConstants.PIECE}
-use Rattle.sum_sources.specs.declared.line_reader.ReaderState.{ReaderState}
-use Rattle.sum_sources.specs.declared.line_reader.{LineReader.TheInside.Inside, LineStop.TheVariants.Memory}
-use Rattle.sum_sources.specs.declared.line_reader.ReaderState.TheVariants.{Active, Done, Stopped}
-use Rattle.sum_sources.specs.LineReader.{line_reader_view, final_answer_in, IsSoundReader}
+use Rattle.std.proofs.lemmas.Grind.{common_steps}
 use Rattle.sum_sources.proofs.ReadOnLemmas.{counted, settled_again}
+use Rattle.sum_sources.specs.LineReader.{IsBounded, line_reader_view, final_answer_in, IsSoundReader}
+use Rattle.sum_sources.specs.declared.{inputs.input.TheConstants.PIECE, line_reader.LineReader.TheInside.Inside}
+use Rattle.sum_sources.specs.declared.line_reader.{LineStop.TheVariants.Memory, ReaderState.ReaderState}
+use Rattle.sum_sources.specs.declared.line_reader.ReaderState.TheVariants.{Active, Done, Stopped}
 use Rattle.sum_sources.proofs.line_reader.LineReader.next_line.Goals as goal
 
 -- the end is returned again

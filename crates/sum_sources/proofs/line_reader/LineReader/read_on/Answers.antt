@@ -1,11 +1,10 @@
 use Rattle.std.proofs.Common.{rules, arith, refl, ap, sym, append-nil, ◌≡◌, ◌∙◌, [], Ok, Err, length}
-use Rattle.std.proofs.{lemmas.Grind.common_steps, lemmas.List.nil_from_length}
-use Rattle.sum_sources.specs.ManifestLines.{HasNoNewline, Line, NoMore}
+use Rattle.std.proofs.lemmas.{Grind.common_steps, List.nil_from_length}
+use Rattle.sum_sources.proofs.{LineLemmas.IsNextLine-last, LineLemmas.IsNextLine-fault, ReadOnLemmas.adds_of}
+use Rattle.sum_sources.proofs.ReadOnLemmas.{HasRead, HasRead-more, HasRead-filled, ends_line, ends_memory, no_line}
+use Rattle.sum_sources.proofs.{ReadOnLemmas.ReadsOn-ending, line_reader.LineReader.read_on.Goals.In-Ok-false}
 use Rattle.sum_sources.specs.{Fault.Whole, Fault.Broken, LineReader.IsReading, LineReader.LineReaderValue}
-use Rattle.sum_sources.proofs.ReadOnLemmas.{adds_of, HasRead, HasRead-more, HasRead-filled, ends_line, ends_memory}
-use Rattle.sum_sources.proofs.ReadOnLemmas.{no_line, ReadsOn-ending}
-use Rattle.sum_sources.proofs.LineLemmas.{IsNextLine-last, IsNextLine-fault}
-use Rattle.sum_sources.proofs.{line_reader.LineReader.read_on.Goals.In-Ok-false}
+use Rattle.sum_sources.specs.ManifestLines.{HasNoNewline, Line, NoMore}
 use Rattle.sum_sources.specs.declared.line_reader.LineStop.TheVariants as stops
 use Rattle.sum_sources.proofs.line_reader.LineReader.read_on.Given as given
 use Rattle.sum_sources.proofs.line_reader.LineReader.read_on.Goals as goal

@@ -1,4 +1,4 @@
-use Rattle.std.proofs.{Common.arith, Math.Seq.take-length, lemmas.Grind.common_steps, lemmas.Bool.eqb-true}
+use Rattle.std.proofs.{Common.arith, Math.Seq.take-length, lemmas.Bool.eqb-true, lemmas.Grind.common_steps}
 use Rattle.sum_sources.proofs.PieceLemmas.{plain_prefix, cut_buffer}
 use Rattle.sum_sources.proofs.line_reader.LineReader.take_piece.Goals as goal
 

@@ -1,5 +1,5 @@
 use Rattle.std.proofs.Common.{◌≡◌, drop, map}
-use Rattle.sum_sources.specs.{Source.first_answer, StoredPair.pair_view}
+use Rattle.sum_sources.specs.sources.{Source.first_answer, StoredPair.pair_view}
 use Rattle.sum_sources.proofs.sources.told_source.answer_to.Given as goal
 
 -- none of the pairs so far has the name

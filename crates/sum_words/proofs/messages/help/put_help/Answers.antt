@@ -1,6 +1,6 @@
 use Rattle.std.proofs.Common.{◌∙◌, refl}
 use Rattle.sum_lines.proofs.SinkLemmas.{HasLeft-all, HasLeft-step, HasLeft-failed, HasLeft-last}
-use Rattle.sum_words.{specs.parsing.Options.all_flags, proofs.TextLemmas.usage_parts, proofs.TextLemmas.option_lines}
+use Rattle.sum_words.{proofs.TextLemmas.usage_parts, proofs.TextLemmas.option_lines, specs.parsing.Options.all_flags}
 use Rattle.sum_words.proofs.messages.help.put_help.Goals as goal
 
 -- the write of the first two lines failed

@@ -1,5 +1,5 @@
 use Rattle.std.proofs.{Common.arith, Common.subst, lemmas.Grind.common_steps}
-use Rattle.sum_lines.specs.Buffered.{WritesAll}
+use Rattle.sum_lines.specs.sinks.Buffered.{WritesAll}
 use Rattle.sum_words.proofs.messages.help.put_row.Goals as goal
 
 -- the parts make the line

@@ -1,5 +1,5 @@
 use Rattle.std.proofs.Common.{arith, ◌≡◌, ◌∙◌, ap, ◌∷◌}
-use Rattle.sum_words.{specs.parsing.Items.option, specs.private.Items.item_value, proofs.RequestLemmas.no_early_request}
+use Rattle.sum_words.{proofs.RequestLemmas.no_early_request, specs.parsing.Items.option, specs.private.Items.item_value}
 use Rattle.sum_words.proofs.parsing.request.read_options.Goals as goal
 
 -- an option other than help and version is chosen, and decides nothing early

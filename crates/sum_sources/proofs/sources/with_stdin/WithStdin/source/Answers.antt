@@ -1,4 +1,4 @@
-use Rattle.std.{proofs.Common.sym, proofs.Math.Logic.∥∥₁_elim, proofs.Props.props}
+use Rattle.std.proofs.{Common.sym, Math.Logic.∥∥₁_elim, Props.props}
 use Rattle.sum_sources.proofs.sources.with_stdin.WithStdin.source.Goals as goal
 
 pub returns-clause-others : goal.returns-clause-others

@@ -1,7 +1,7 @@
 use Rattle.std.proofs.Common.{◌∙◌, refl, sym, ap}
-use Rattle.std.{proofs.Math.Logic.∥∥₁_elim, proofs.Math.Logic.∥∥₁_map, proofs.Props.props}
-use Rattle.sum_sources.specs.Place.{place_state}
+use Rattle.std.proofs.{Math.Logic.∥∥₁_elim, Math.Logic.∥∥₁_map, Props.props}
 use Rattle.sum_sources.proofs.WithStdinLemmas.{kept_opening, kept_stdin, stdin_opened, file_opened}
+use Rattle.sum_sources.specs.sources.Place.{place_state}
 use Rattle.sum_sources.proofs.sources.with_stdin.WithStdinSource.open_file.Goals as goal
 
 -- ---- `-`

@@ -2,10 +2,11 @@
 use Rattle.std.specs.Prelude.{ℕ, zero, suc, Bool, true, false, ◌≡◌, List, [], ◌∷◌, codes, bytes_eq, filter, not, Option}
 use Rattle.std.specs.Prelude.{None, Some, Result, Ok, IfSome, if◌then◌else◌, option_map}
 use Rattle.digest_kinds.specs.Bytes.{ByteString}
-use Rattle.sum_sources.specs.{Fault.Fault, Source.result_at}
-use Rattle.sum_sources.specs.Input.{Content, InputState, Reads, empty_content}
-use Rattle.sum_sources.specs.Stdin.{StdinPlace, closable_state, given_input, is_untaken}
-use Rattle.sum_sources.specs.Source.{Answers, Pair, ToldAnswers, SourceState, Opening, FitsAnswer, results_of}
+use Rattle.sum_sources.specs.Fault.{Fault}
+use Rattle.sum_sources.specs.inputs.Input.{Content, InputState, Reads, empty_content}
+use Rattle.sum_sources.specs.inputs.Stdin.{StdinPlace, closable_state, given_input, is_untaken}
+use Rattle.sum_sources.specs.sources.Source.{result_at, Answers, Pair, ToldAnswers, SourceState, Opening, FitsAnswer}
+use Rattle.sum_sources.specs.sources.Source.{results_of}
 
 -- whether a name is that of standard input
 abbrev pub is_dash : ByteString → Bool

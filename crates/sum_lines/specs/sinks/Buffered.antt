@@ -1,7 +1,7 @@
 -- A buffer over a sink, and what a call that writes a text to it does.
 use Rattle.std.specs.Prelude.{◌≡◌, ◌<◌, ◌%◌, [], ◌++◌, length, IsTrue, ⊤, ◌⊎◌, Result, Ok, Err, IsOk, OnErr}
 use Rattle.digest_kinds.specs.Bytes.{ByteString}
-use Rattle.sum_lines.specs.{Output.GivesAll, Sink.SinkState, declared.sinks.buffered.TheConstants.CAPACITY}
+use Rattle.sum_lines.specs.{declared.sinks.buffered.TheConstants.CAPACITY, sinks.Output.GivesAll, sinks.Sink.SinkState}
 
 -- a buffer's state: that of the sink below it, and the bytes that are buffered
 pub record BufferState : Type 0 where

@@ -1,10 +1,11 @@
 -- Sources of files: which names one opened, and what it answered.
+use Rattle.std.specs.Option.{option_and_then, option_flatten}
 use Rattle.std.specs.Prelude.{ℕ, zero, suc, ◌≡◌, ◌+◌, ◌&&◌, List, [], ◌∷◌, ◌++◌, map, filter_map, count_by, slice_get}
 use Rattle.std.specs.Prelude.{bytes_eq, nat_le, Option, None, Some, Result, Ok, Err, IfSome, MatchResult, unwrap_or}
-use Rattle.std.specs.{Prelude.if◌then◌else◌, Option.option_and_then, Option.option_flatten, Result.result_ok}
+use Rattle.std.specs.{Prelude.if◌then◌else◌, Result.result_ok}
 use Rattle.digest_kinds.specs.Bytes.{ByteString}
 use Rattle.sum_sources.specs.{Fault.Fault, Fault.NotFound, declared.sources.source.OpenFault.OpenFault}
-use Rattle.sum_sources.specs.Input.{Content, InputState, Reads, Fits, empty_reads}
+use Rattle.sum_sources.specs.inputs.Input.{Content, InputState, Reads, Fits, empty_reads}
 use Rattle.sum_sources.specs.declared.sources.source.OpenFault.TheVariants as faults
 
 -- what opening a name gives: a content, or the fault of opening
@@ -70,6 +71,10 @@ pub record SourceState : Type 0 where
   pub told : List Pair  -- what it has in memory, which no call changes
   pub openings : List Opening  -- in their order
   pub refusals : ℕ  -- how many openings were refused memory
+
+-- the state of a source without openings that isn't in memory
+abbrev pub no_openings : SourceState
+no_openings = record { told = []; openings = []; refusals = 0 }
 
 -- what an opening gave fits an answer: what was read fits its content, or the fault is the answer
 abbrev pub FitsAnswer : AnswerValue → Result Reads Fault → Type 0

@@ -3,7 +3,7 @@ use Rattle.std.specs.Prelude.{◌≡◌, ℕ, length}
 use Rattle.md5.specs.Md5.{Holds as HoldsMd5}
 use Rattle.sha1.specs.Sha1.{Holds as HoldsSha1}
 use Rattle.sha2.specs.Hashers.{Holds224, Holds256, Holds384, Holds512}
-use Rattle.blake2b_core.specs.{Bytes.ByteString, Blake2b.HasTaken, Blake2b.digest_len, Blake2b.taken_count}
+use Rattle.blake2b_core.specs.{Blake2b.HasTaken, Blake2b.digest_len, Blake2b.taken_count, Bytes.ByteString}
 use Rattle.digest_kinds.specs.Algo.{Algo, Md5, Sha1, Sha224, Sha256, Sha384, Sha512}
 use Rattle.digest_kinds.specs.Kind.{KindValue, blake2b_kind, full_kind}
 use Rattle.digest_kinds.specs.declared.hashers.any_hasher.AnyHasher.{AnyHasher}

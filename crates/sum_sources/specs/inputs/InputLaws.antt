@@ -2,11 +2,12 @@
 use Rattle.std.proofs.Common.{rules, ℕ, [], None, refl, drop}
 use Rattle.std.proofs.lemmas.List.{take-append-drop}
 use Rattle.digest_kinds.specs.Bytes.{ByteString}
-use Rattle.sum_sources.specs.Input.{Content, InputState, HasContent, Fits, IsReadTo, told_reads, empty_content}
-use Rattle.sum_sources.specs.{Fault.Whole, Input.Phase, Input.Unfinished, Input.Ended, Input.Past}
-use Rattle.sum_sources.specs.{Told.ToldValue, Told.told_state, Stdin.closable_state, Place.place_state}
-use Rattle.sum_sources.specs.declared.sources.opened.Place.{Place, TheVariants.Stdin, TheVariants.File}
+use Rattle.sum_sources.specs.Fault.{Whole}
 use Rattle.sum_sources.specs.declared.inputs.stdin.Closable.{Closable, TheVariants.Open, TheVariants.Closed}
+use Rattle.sum_sources.specs.declared.sources.opened.Place.{Place, TheVariants.Stdin, TheVariants.File}
+use Rattle.sum_sources.specs.inputs.Input.{Content, InputState, HasContent, Fits, IsReadTo, told_reads, empty_content}
+use Rattle.sum_sources.specs.inputs.{Input.Phase, Input.Unfinished, Input.Ended, Input.Past, Stdin.closable_state}
+use Rattle.sum_sources.specs.{inputs.Told.ToldValue, inputs.Told.told_state, sources.Place.place_state}
 
 -- what reads of a content gave fits it
 pub told_reads_fit : (content : Content) (n : ℕ) (phase : Phase) → Fits (told_reads content n phase) content

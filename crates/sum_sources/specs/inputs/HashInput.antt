@@ -1,8 +1,8 @@
 -- What a call does that hashes an input.
 use Rattle.std.specs.Prelude.{◌≡◌, length, Result, IfOk, MatchResult}
 use Rattle.digest_kinds.specs.{Bytes.ByteString, Kind.digest, Kind.KindValue}
-use Rattle.sum_sources.specs.{Fault.Fault, Fault.Whole, Fault.Broken, Input.Unfinished, Input.Ended, Input.Past}
-use Rattle.sum_sources.specs.Input.{Content, InputState, Fits, IsSameInput, clip, reads_past}
+use Rattle.sum_sources.specs.{Fault.Fault, Fault.Whole, Fault.Broken, inputs.Input.Unfinished}
+use Rattle.sum_sources.specs.inputs.Input.{Ended, Past, Content, InputState, Fits, IsSameInput, clip, reads_past}
 
 -- a call hashes an input
 pub record HashesInput (kind : KindValue) (old new : InputState) (result : Result ByteString Fault) : Type 0 where

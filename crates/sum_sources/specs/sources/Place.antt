@@ -1,8 +1,9 @@
 -- What is opened beside standard input: standard input, or a file.
 use Rattle.std.specs.Prelude.{Bool, true, false, ◌≡◌}
-use Rattle.sum_sources.specs.{Input.InputState, Stdin.closable_state, Source.SourceState, Source.state_after_closing}
-use Rattle.sum_sources.specs.Stdin.{StdinPlace, given_input, stdin_after_taking, stdin_after_put_back}
 use Rattle.sum_sources.specs.declared.sources.opened.Place.{Place, TheVariants.Stdin, TheVariants.File}
+use Rattle.sum_sources.specs.inputs.{Input.InputState, Stdin.closable_state}
+use Rattle.sum_sources.specs.inputs.Stdin.{StdinPlace, given_input, stdin_after_taking, stdin_after_put_back}
+use Rattle.sum_sources.specs.sources.Source.{SourceState, state_after_closing}
 
 -- the state of what was opened
 abbrev pub place_state : {I F : Type 0} → (I → InputState) → (F → InputState) → Place I F → InputState

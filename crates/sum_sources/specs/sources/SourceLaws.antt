@@ -1,14 +1,16 @@
 -- The law of sources, with its proofs: what an opening gave fits the answer, if one is told.
 use Rattle.std.proofs.Common.{◌≡◌, ◌∙◌, ℕ, Bool, true, false, List, [], ◌∷◌, Option, None, Some, Result, Ok, Err, refl}
-use Rattle.std.proofs.{Common.IfSome, Common.ap, Common.sym, Common.codes, Common.bytes_eq, Common.arith, Props.props}
-use Rattle.std.proofs.{Math.Logic.∥∥₁_elim, lemmas.Slice.Eq.bytes_eq-Decides, lemmas.List.append_cancel_left}
+use Rattle.std.proofs.Common.{IfSome, ap, sym, codes, bytes_eq, arith}
+use Rattle.std.proofs.{Math.Logic.∥∥₁_elim, Props.props, lemmas.List.append_cancel_left}
+use Rattle.std.{proofs.lemmas.Slice.Eq.bytes_eq-Decides, specs.Coded.×_prop}
 use std.HLevel.{Π_prop, Σ_prop_path}
-use Rattle.std.specs.Coded.{×_prop}
 use Rattle.digest_kinds.specs.Bytes.{ByteString}
-use Rattle.sum_sources.specs.Input.{Content, Phase, Unfinished, Ended, Past, Reads, InputState, IsReadTo, Fits}
-use Rattle.sum_sources.specs.Source.{AnswerValue, ToldAnswers, SourceState, Opening, FitsAnswer, GivesTold, results_of}
-use Rattle.sum_sources.specs.{Fault.Fault, Source.result_at, Source.no_answer, Stdin.StdinPlace}
-use Rattle.sum_sources.specs.WithStdin.{is_dash, other_openings, answer_of_both, with_stdin_state, IsSoundWithStdin}
+use Rattle.sum_sources.specs.Fault.{Fault}
+use Rattle.sum_sources.specs.inputs.Input.{Content, Phase, Unfinished, Ended, Past, Reads, InputState, IsReadTo, Fits}
+use Rattle.sum_sources.specs.inputs.Stdin.{StdinPlace}
+use Rattle.sum_sources.specs.sources.Source.{AnswerValue, ToldAnswers, SourceState, Opening, FitsAnswer, GivesTold}
+use Rattle.sum_sources.specs.sources.{Source.results_of, Source.result_at, Source.no_answer, WithStdin.is_dash}
+use Rattle.sum_sources.specs.sources.WithStdin.{other_openings, answer_of_both, with_stdin_state, IsSoundWithStdin}
 
 -- a source that isn't in memory has it
 pub untold_gives : (s : SourceState) → GivesTold no_answer (record s { told = [] })

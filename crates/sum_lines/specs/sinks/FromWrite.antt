@@ -1,7 +1,7 @@
 -- The state of a sink over a writer.
 use Rattle.std.specs.Prelude.{[], ◌++◌, Option, unwrap_or}
 use Rattle.digest_kinds.specs.Bytes.{ByteString}
-use Rattle.sum_lines.specs.{Sink.SinkState, declared.system.FromWrite.FromWrite}
+use Rattle.sum_lines.specs.{declared.system.FromWrite.FromWrite, sinks.Sink.SinkState}
 
 -- what the writer below a sink held at first, if that is known
 abbrev pub held_at_first : {W : Type 0} {write : _} → FromWrite W write → Option ByteString

@@ -1,7 +1,7 @@
 -- What a write and a flush do to a sink.
 use Rattle.std.specs.Prelude.{ℕ, Bool, true, false, ◌≡◌, ◌<◌, ◌≤◌, ◌+◌, [], ◌∷◌, ◌++◌, length, take, ⊤, Result, Ok, Err}
 use Rattle.digest_kinds.specs.Bytes.{ByteString}
-use Rattle.sum_lines.specs.Output.{OutputState}
+use Rattle.sum_lines.specs.sinks.Output.{OutputState}
 
 -- a sink's state: what it got, and whether it is flushed, as before its first call, after a flush, and after a failure
 pub record SinkState : Type 0 where

@@ -1,0 +1,40 @@
+-- The texts that name kinds.
+use Rattle.std.specs.Char.{is_ascii_digit}
+use Rattle.std.specs.Prelude.{◌≡◌, ℕ, ◌*◌, ◌⊎◌, ◌==◌, ◌&&◌, not, nat_lt, [], ◌∷◌, ◌++◌, length, codes, IsTrue, Option}
+use Rattle.std.specs.Prelude.{None, Some, option_map, if◌then◌else◌, decimal, take_while}
+use Rattle.std.specs.{Result.result_ok, Str.byte, Str.Parse.digits_value}
+use Rattle.digest_kinds.specs.Algo.{Algo, Blake2b, full_len, has_len, tag}
+use Rattle.digest_kinds.specs.Bytes.{ByteString, ◌>>=◌, after_while}
+use Rattle.digest_kinds.specs.Kind.{KindValue, full_kind, blake2b_of_bits}
+
+-- the text that names a kind: the tag and, for a BLAKE2b digest that isn't full, its bits, as in `BLAKE2b-256`
+abbrev pub kind_text : KindValue → ByteString
+kind_text kind = tag kind.algo ++ (if kind.len == full_len kind.algo then [] else codes "-" ++ decimal (8 * kind.len))
+
+-- this width may follow a kind's tag: nothing for the full length, or `-` and the length in bits, 8 to 512, for BLAKE2b
+abbrev pub IsWidth : KindValue → ByteString → Type 0
+IsWidth kind width = ((width ≡ []) × (kind.len ≡ full_len kind.algo))
+    ⊎ ((width ≡ codes "-" ++ decimal (8 * kind.len)) × (kind.algo ≡ Blake2b) × IsTrue (has_len Blake2b kind.len))
+
+-- a text names a kind: it is the tag and a width; so `BLAKE2b` and `BLAKE2b-512` name the same kind
+abbrev pub NamesKind : ByteString → KindValue → Type 0
+NamesKind text kind = (width : ByteString) × (text ≡ tag kind.algo ++ width) × IsWidth kind width
+
+-- ---- computed: these need not be believed
+
+-- the number in a text of one to three digits without a leading zero
+abbrev pub short_number : ByteString → Option ℕ
+short_number [] = None
+short_number (d ∷ ds) = if not (d == byte "0") && nat_lt (length ds) 3 then Some (digits_value 10 (d ∷ ds)) else None
+
+-- the kind of BLAKE2b digests whose number of bits is in these digits
+abbrev pub kind_of_digits : ByteString → Option KindValue
+kind_of_digits digits = short_number digits >>= (λ bits. result_ok (blake2b_of_bits bits))
+
+-- the kind that an algorithm and the text after its tag name, and the rest; for BLAKE2b a `-` may precede its bits
+abbrev pub kind_and_rest : Algo → ByteString → Option (KindValue × ByteString)
+kind_and_rest Blake2b (b ∷ bs) =
+    if b == byte "-" then
+    option_map (λ k. (k, after_while is_ascii_digit bs)) (kind_of_digits (take_while is_ascii_digit bs))
+    else Some (full_kind Blake2b, b ∷ bs)
+kind_and_rest algo text = Some (full_kind algo, text)

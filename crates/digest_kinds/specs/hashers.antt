@@ -1,0 +1,2 @@
+-- The hasher of any kind.
+pub mod AnyHasher

@@ -1,0 +1,3 @@
+-- Lines as they are written.
+pub mod Parts
+pub mod DigestLine

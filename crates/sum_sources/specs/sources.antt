@@ -1,0 +1,11 @@
+-- Sources of files, and the digest of a file.
+pub mod Source
+pub mod SourceLog
+pub mod HashFile
+pub mod StoredPair
+pub mod ToldSource
+pub mod Place
+pub mod Opened
+pub mod WithStdin
+pub mod WithStdinView
+pub mod SourceLaws
