@@ -14,7 +14,7 @@ import shutil
 import subprocess
 import sys
 import tempfile
-from concurrent.futures import ThreadPoolExecutor
+from concurrent.futures import ThreadPoolExecutor, wait
 from pathlib import Path
 
 sys.dont_write_bytecode = True  # nothing is to be left beside these files
@@ -24,7 +24,7 @@ from sources import TOP, below, crates_of_program
 OUT = Path(TOP, "out", "checks")
 LIBRARIES = crates_of_program()[:-1]
 KB_OF_A_CHECK = 3_000_000
-TWINS_IN_A_CHECK = 8  # at most, if they fit together
+TWINS_IN_A_CHECK = 16  # at most, if they fit together
 
 
 def adds_code(edit):
@@ -122,10 +122,10 @@ def copy_crates(names, folder):
 
 
 def check(crate, texts, *flags, kept=None):
-    """Checks a copy of a crate with these texts in place of its own, over what a check has kept.
-    Returns what the kit says, and whether the crate is proved. If nothing was kept, and the crate
-    is as it was, that check keeps its work. Two copies never wait for each other, and none is below
-    the repository, where `rt` would find its crates."""
+    """Checks a copy of a crate with these texts in place of its own, over what a check has kept; if
+    nothing was kept, this one keeps its work. Returns what the kit says, and whether the crate is
+    proved. Two copies never wait for each other, and none is below the repository, where `rt` would
+    find its crates."""
     with tempfile.TemporaryDirectory(prefix="digests-check-") as folder:
         copy_crates([*below(crate), crate], folder)
         own = Path(folder, "crates", crate)
@@ -144,10 +144,10 @@ def check(crate, texts, *flags, kept=None):
             text=True,
             errors="replace",
         )
-        is_proved = ran.returncode == 0
-        if kept and not kept.is_dir() and not texts and is_proved:
-            shutil.move(own / "out/incremental", kept)
-        return ran.stdout, is_proved
+        made = own / "out/incremental"
+        if kept and made.is_dir() and not kept.is_dir():
+            shutil.move(made, kept)
+        return ran.stdout, ran.returncode == 0
 
 
 def is_accepted(crate, edit, kept):
@@ -172,21 +172,23 @@ def private_fields(crate):
 
 
 def kept_of(crate):
-    """Returns where a check of a crate has kept its work. If none has, one is made."""
+    """Returns where a check of a crate has kept its work or, if none has, where one will."""
     kept = Path(TOP, "crates", crate, "out/incremental")
     if not kept.is_dir():
         kept = OUT / f"{crate}.kept"
         shutil.rmtree(kept, ignore_errors=True)
-        check(crate, {}, kept=kept)
     return kept
 
 
 def failures_of(crate, twins, pool):
-    """Returns a line for each check of a crate that failed. Those that can run at once do."""
+    """Returns a line for each check of a crate that failed. The first group of twins is tried
+    alone, over what was kept, or to keep it. The others are tried at once."""
+    kept = kept_of(crate)
     tried = [pool.submit(private_fields, crate)]
-    kept = pool.submit(kept_of, crate).result() if twins else None
-    for group in groups_of(crate, twins):
+    for number, group in enumerate(groups_of(crate, twins)):
         tried.append(pool.submit(refused, crate, group, kept))
+        if number == 0:
+            wait(tried)
     return [failure for ended in tried for failure in ended.result()]
 
 
