@@ -47,6 +47,25 @@ class Documents(Case):
             with self.subTest(function=name):
                 self.assertTrue(contract in shown, f"put this into docs/PROMISES.md:\n{contract}")
 
+    def test_where_definitions_are(self):
+        """docs/ARCHITECTURE.md names each file of definitions without a file of code of its
+        name."""
+        code = {(crate, path) for crate, path, _ in files("src", ".rt")}
+        for crate, path, _ in files("specs", ".antt"):
+            name = path.split("/")[-1]
+            of_code = re.sub("(?<=[a-z0-9])(?=[A-Z])", "_", path).lower()
+            is_list = name == "Lib" or os.path.isdir(
+                os.path.join(TOP, "crates", crate, "specs", path)
+            )
+            if crate in LIBRARIES and not is_list and not path.startswith("private/"):
+                shown = path.split("/")[0] if path.startswith("grammar/") else name
+                with self.subTest(crate=crate, file=path):
+                    self.assertTrue(
+                        (crate, of_code) in code
+                        or name.endswith("Laws")
+                        or f"`{shown}`" in text_of("docs", "ARCHITECTURE.md")
+                    )
+
     def test_wrong_versions(self):
         """The table of docs/TESTING.md has each wrong version once, in a row of its crate."""
         rows = re.findall(r"(?m)^\|(\w+)\|`[\w:]+`\|(.*)\|$", text_of("docs", "TESTING.md"))

@@ -1,4 +1,4 @@
--- The digits of a digest.
+-- The digits of a digest. How long a digest is, `IsDigestLen`, stands in `blake2b_core`.
 use Rattle.std.specs.{List.AllPass, Prelude.◌≡◌, Prelude.◌%◌, Prelude.◌≤◌, Prelude.length}
 use Rattle.hex.specs.Hex.{is_hex_digit}
 use Rattle.digest_kinds.specs.Bytes.{ByteString}

@@ -4,9 +4,11 @@ use Rattle.std.specs.Prelude.{None, Some, Result, Ok, IfSome, if◌then◌else�
 use Rattle.digest_kinds.specs.Bytes.{ByteString}
 use Rattle.sum_sources.specs.Fault.{Fault}
 use Rattle.sum_sources.specs.inputs.Input.{Content, InputState, Reads, empty_content}
-use Rattle.sum_sources.specs.inputs.Stdin.{StdinPlace, closable_state, given_input, is_untaken}
+use Rattle.sum_sources.specs.declared.sources.opened.Place.{Place, TheVariants.Stdin, TheVariants.File}
+use Rattle.sum_sources.specs.inputs.Stdin.{StdinPlace, closable_state, given_input, is_untaken, stdin_after_taking}
+use Rattle.sum_sources.specs.inputs.Stdin.{stdin_after_put_back}
 use Rattle.sum_sources.specs.sources.Source.{result_at, Answers, Pair, ToldAnswers, SourceState, Opening, FitsAnswer}
-use Rattle.sum_sources.specs.sources.Source.{results_of}
+use Rattle.sum_sources.specs.sources.Source.{results_of, state_after_closing}
 
 -- whether a name is that of standard input
 abbrev pub is_dash : ByteString → Bool
@@ -61,3 +63,15 @@ pub record IsSoundWithStdin {I : Type 0} (state_of : I → InputState) (first st
   pub place : IsPlaceOf first stdin (results_of openings (codes "-"))
   pub given : (k : ℕ) → GivesStdin (closable_state state_of (given_input first)) k (result_at openings (codes "-") k)
   pub files : other_openings openings ≡ other_openings of_source  -- the other names were opened in the source
+
+-- what was opened is what taking standard input gives
+abbrev pub TakesStdin : {I F : Type 0} → StdinPlace I → StdinPlace I → Place I F → Type 0
+TakesStdin before after (Stdin given log) = (given ≡ given_input before) × (after ≡ stdin_after_taking before)
+TakesStdin before after (File file) = ⊥
+
+-- after closing `-`, standard input is put back; after closing another file, the source has closed it. The other part
+-- is unchanged
+abbrev pub parts_after_closing : {I F : Type 0} → (F → InputState) → Place I F → StdinPlace I → SourceState
+    → StdinPlace I × SourceState
+parts_after_closing file_state (Stdin given log) stdin source = (stdin_after_put_back stdin given, source)
+parts_after_closing file_state (File file) stdin source = (stdin, state_after_closing source (file_state file))

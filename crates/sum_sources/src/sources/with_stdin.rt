@@ -80,7 +80,7 @@ impl<I: Input + Drop, S: Source> Source for WithStdin<I, S> {
     ghost tells = { answer_of_both S.tells };
 
     ghost use Rattle.std.specs.Prelude.{IfOk, MatchBool, MatchResult};
-    ghost use Rattle.sum_sources.specs.sources.{Opened.opened_state, Opened.place_in, Place.TakesStdin};
+    ghost use Rattle.sum_sources.specs.sources.{Opened.opened_state, Opened.place_in, WithStdin.TakesStdin};
     ghost use Rattle.sum_sources.specs.sources.Source.{state_after_opening, opened_file};
 
     /// Opens the name: `-` gives what [`Stdin::take`] gives, and any other name is opened in the source.
@@ -116,7 +116,7 @@ impl<I: Input + Drop, S: Source> Source for WithStdin<I, S> {
         }
     }
 
-    ghost use Rattle.sum_sources.specs.sources.{Place.parts_after_closing, Source.IsOpen, Source.state_after_closing};
+    ghost use Rattle.sum_sources.specs.sources.{Source.IsOpen, Source.state_after_closing, WithStdin.parts_after_closing};
 
     fn close_file(&mut self, file: Opened<I, S::File>)
         requires { IsOpen (answer_of_both S.tells) (both_state self.old) (opened_state file) }

@@ -4,7 +4,7 @@ use Rattle.sum_sources.proofs.GaveLemmas.{is_open_last, names-closed}
 use Rattle.sum_sources.specs.declared.sources.opened.Place.{Place, TheVariants.File, TheVariants.Stdin}
 use Rattle.sum_sources.specs.inputs.Input.{InputState}
 use Rattle.sum_sources.specs.inputs.Stdin.{StdinPlace, given_input, stdin_after_put_back, stdin_after_taking}
-use Rattle.sum_sources.specs.sources.Place.{parts_after_closing, is_stdin, TakesStdin}
+use Rattle.sum_sources.specs.sources.{Place.is_stdin, WithStdin.parts_after_closing, WithStdin.TakesStdin}
 use Rattle.sum_sources.specs.sources.Source.{SourceState, state_with_opening, names_of}
 use Rattle.sum_sources.specs.sources.WithStdin.{answer_of_both, is_dash}
 use Rattle.sum_sources_tests.proofs.standard_input.visit.Goals as goal
