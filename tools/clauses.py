@@ -1,13 +1,15 @@
 #!/usr/bin/env python3
 """Finds the promises that nobody misses: `tools/clauses.py [WORD ..]`, after a build.
 
-It empties each clause of a public call, and each field of a record to which such a clause leads,
-one at a time: it puts `⊤` in its place, and has the functions of those files proved that name the
-call; if that misses nothing, all crates. The promise is missed if a lemma isn't proved any more, or
-a function that doesn't have to keep the promise itself. With words, only those are tried whose
-names have one of them. Results are kept in out/clauses as long as no source changes, so a run that
-was ended goes on where it stopped."""
+It empties each clause of a public call, and each field of a record to which such a clause leads: it
+puts `⊤` in its place. Then a few of the functions are proved that call what makes the promise, for
+several promises at once if no function calls two of them. A promise that this doesn't find missed
+is emptied alone, and all crates are proved. It is missed if a lemma isn't proved any more, or a
+function that doesn't have to keep it itself. With words, only those are tried whose names have one
+of them. Results are kept in out/clauses as long as no source changes, so a run that was ended goes
+on where it stopped."""
 
+import functools
 import hashlib
 import os
 import re
@@ -20,10 +22,11 @@ from pathlib import Path
 
 sys.dont_write_bytecode = True  # nothing is to be left beside these files
 
+import compiled
 from believed import cited, code, specs
 from checks import copy, lanes
 from items import clauses_in
-from sources import TOP, dependencies, text_of, tokens_of
+from sources import TOP, below, dependencies, text_of, tokens_of
 
 OUT = Path(TOP, "out", "clauses")
 IMPORT = {
@@ -38,21 +41,25 @@ FIELD = re.compile(r"(?m)^  pub (\w+) : (.*(?:\n      .*)*)")
 PROVED = re.compile(r"(?m)^fn (\S+): proved")
 UNPROVED = re.compile(r"(?m)^fn (\S+): (?:not proved|no proof)")
 IN_A_LEMMA = re.compile(r"(\w+/proofs/[\w/]+\.antt):(\d+):\d+: error")
+CALLERS_OF_EACH, PROMISES_AT_ONCE = 3, 12  # at most, in the first round
 
 
 class Case:
-    """A promise that is emptied: its name, such as `sum_lines put_line.behavior`; the call that
-    makes it, if it is a clause; its file, and the file's text without it; and the symbols of the
-    functions that have to keep it."""
+    """A promise that is emptied: its name, such as `sum_lines put_line.behavior`; its file, where
+    it stands there, and what is put in its place; the symbols of the functions that have to keep
+    it; and the file of who misses it, if it was tried."""
 
-    def __init__(self, name, call, path, place, replacement, keepers):
-        self.name, self.call, self.path, self.keepers = name, call, path, keepers
-        self.label = name.rpartition(".")[2]
-        text = text_of(path)
-        self.text = text[: place.start] + replacement + text[place.stop :]
-        if not IMPORTED.search(text):
-            line = IMPORT[Path(path).suffix]
-            self.text = re.sub(r"(?m)^(?=(?:ghost )?use )", line, self.text, count=1)
+    def __init__(self, name, path, place, replacement, keepers):
+        self.name, self.path, self.place, self.replacement = name, path, place, replacement
+        self.keepers, self.label = keepers, name.rpartition(".")[2]
+        self.log = OUT / state() / re.sub(r"\W+", ".", name)
+
+    @functools.lru_cache(maxsize=None)
+    def involved(self):
+        """Returns the symbols of the functions that have to keep it, and of all their callers."""
+        names = {keeper.split("::")[-1] for keeper in self.keepers}
+        others = {name for name, called in beside().items() if called & names}
+        return self.keepers.union(others, *(callers().get(keeper, ()) for keeper in self.keepers))
 
     def missed_by(self, output):
         """Returns the functions and lemmas that the kit's output says aren't proved any more,
@@ -92,7 +99,7 @@ def cases_of_clauses():
                 start = text.index(clause.text, sum(map(len, rows[: clause.line - 1])))
                 place = slice(start, start + len(clause.text))
                 name = f"{item.crate} {item.path}.{clause.label}"
-                yield Case(name, item.name, path, place, "{ ⊤ }", keepers_of(item))
+                yield Case(name, path, place, "{ ⊤ }", keepers_of(item))
 
 
 def cases_of_fields():
@@ -108,7 +115,20 @@ def cases_of_fields():
             for field in FIELD.finditer(block):
                 place = slice(start + field.start(2), start + field.end(2))
                 name = f"{definition.module.crate} {definition.name}.{field[1]}"
-                yield Case(name, "", path, place, "⊤", keepers)
+                yield Case(name, path, place, "⊤", keepers)
+
+
+def texts_without(cases):
+    """Returns the texts of the files of some cases, without what these empty, by their paths."""
+    texts = {}
+    for case in sorted(cases, key=lambda case: -case.place.start):
+        text = texts.get(case.path) or text_of(case.path)
+        texts[case.path] = text[: case.place.start] + case.replacement + text[case.place.stop :]
+    for path, text in texts.items():
+        if not IMPORTED.search(text):
+            line = IMPORT[Path(path).suffix]
+            texts[path] = re.sub(r"(?m)^(?=(?:ghost )?use )", line, text, count=1)
+    return texts
 
 
 def crates():
@@ -122,50 +142,65 @@ def crates_of_kit():
     return sorted({name for below in names.values() for name in below if name not in names})
 
 
-def functions_near(call, symbols):
-    """Returns those of some functions that stand in a file which names a call."""
-    found = []
-    for name in crates():
-        source = Path(TOP, "crates", name, "src")
-        for path in source.glob("**/*.rt"):
-            if re.search(rf"\b{call}(?:::<.*?>)?\(", path.read_text("utf-8")):
-                parts = [part for part in path.relative_to(source).with_suffix("").parts]
-                module = "::".join([name, *parts]).removesuffix("::lib") + "::"
-                inside = [symbol for symbol in symbols if symbol.startswith(module)]
-                found += [symbol for symbol in inside if symbol[len(module) :].count("::") < 2]
+@functools.lru_cache(maxsize=None)
+def callers():
+    """Returns the callers of each function of ours, by its symbol."""
+    found = {}
+    for caller in compiled.ours().values():
+        for called in caller.runs:
+            item = code().of_symbol(called)
+            if item:
+                found.setdefault(item.symbol, set()).add(compiled.without_parameters(caller.name))
     return found
 
 
-def check(kept, case=None, only=()):
-    """Proves these functions or, if none are named, all crates, without what a case empties, over
-    what was kept of whole ones. Returns what the kit says. Without a case, the work is kept if all
-    is proved. The crates are sources of a crate that has nothing else, so that nothing is built."""
+@functools.lru_cache(maxsize=None)
+def beside():
+    """Returns the functions of the crates beside the program's libraries, each with the names that
+    its file calls."""
+    found = {}
+    for symbol in PROVED.findall((OUT / state() / "whole").read_text("utf-8")):
+        crate, *parts = symbol.split("::")
+        source = Path(TOP, "crates", crate, "src")
+        paths = [source.joinpath(*parts[:-1]).with_suffix(".rt"), source / "lib.rt"]
+        path = next((path for path in paths if path.exists()), None)
+        if path and crate not in compiled.LIBRARIES:
+            found[symbol] = {*re.findall(r"(\w+)(?:::<[^()]*>)?\(", path.read_text("utf-8"))}
+    return found
+
+
+def check(kept, names, cases=(), only=()):
+    """Proves these functions or, if none are named, all of some crates, without what the cases
+    empty, over what was kept of whole ones. Returns what the kit says. Without a case, the work is
+    kept if all is proved. The crates are sources of a crate that has nothing else, so that nothing
+    is built."""
     with tempfile.TemporaryDirectory(prefix="digests-clauses-") as folder:
         own, sources = Path(folder, "crates", "all"), Path(folder, "sources", "crates")
         os.makedirs(own / "src")
         Path(folder, "crates.txt").write_text(f"all: {' '.join(crates_of_kit())}\n", "utf-8")
         (own / "src/lib.rt").write_text("//! Nothing.\n#![tactic(auto)]\n", "utf-8")
-        command = ["rt", "check", "--jobs", "1" if case else str(lanes())]
+        command = ["rt", "check", "--jobs", "1" if cases else str(lanes())]
         for symbol in only:
             command += ["--only", symbol]
-        for name in crates():
+        for name in names:
             os.makedirs(sources / name)
             copy(Path(TOP, "crates", name), ["src", "specs", "proofs"], sources / name)
-            names = ",".join(["std", *dependencies()[name]])
-            command += ["--lib", f"{name}:{names}={sources / name}/src/lib.rt"]
+            uses = ",".join(["std", *dependencies()[name]])
+            command += ["--lib", f"{name}:{uses}={sources / name}/src/lib.rt"]
         if kept.is_dir():
             (own / "out/incremental").mkdir(parents=True)
             copy(kept, ["."], own / "out/incremental")
-        if case:
-            (sources.parent / case.path).unlink()  # or the text would change the original, too
-            (sources.parent / case.path).write_text(case.text, "utf-8")
+        for path, text in texts_without(cases).items():
+            (sources.parent / path).unlink()  # or the text would change the original, too
+            (sources.parent / path).write_text(text, "utf-8")
         how = {"cwd": own, "stdin": subprocess.DEVNULL, "stderr": subprocess.STDOUT}
         ran = subprocess.run(command, stdout=subprocess.PIPE, **how)
-        if not case and ran.returncode == 0:
+        if not cases and ran.returncode == 0:
             shutil.move(own / "out/incremental", kept)
         return ran.stdout.decode(errors="replace")
 
 
+@functools.lru_cache(maxsize=None)
 def state():
     """Returns a sum of all sources."""
     found = hashlib.sha256()
@@ -175,37 +210,87 @@ def state():
     return found.hexdigest()[:16]
 
 
+def callers_of(case):
+    """Returns who calls what makes a promise, without those that have to keep it: all of the lowest
+    crate that has any."""
+    found = case.involved() - case.keepers
+    for crate in crates():
+        if of_crate := sorted(name for name in found if crate_of(name) == crate):
+            return of_crate
+    return []
+
+
+def crate_of(symbol):
+    """Returns the crate of a symbol."""
+    return symbol.split("::")[0]
+
+
+def groups_of(cases, most, callers_of_each):
+    """Returns the cases that have callers in groups of at most so many; in each, some callers of
+    each case. These are of one crate, and none has to do with another promise of the group."""
+    groups = []
+
+    def fits(group, case, few):
+        return len(group) < most and all(
+            crate_of(few[0]) == crate_of(group[other][0])
+            and not other.involved().intersection(few)
+            and not case.involved().intersection(group[other])
+            for other in group
+        )
+
+    for case in cases:
+        if few := callers_of(case)[:callers_of_each]:
+            group = next((group for group in groups if fits(group, case, few)), None)
+            if group is None:
+                group = {}
+                groups.append(group)
+            group[case] = few
+    return groups
+
+
 def main(words):
     """Tries the cases that have one of the words, or all, and prints who misses each."""
-    results, kept = OUT / state(), OUT / "kept"
-    results.mkdir(parents=True, exist_ok=True)
-    if not (results / "whole").exists():
+    kept, whole = OUT / "kept", OUT / state() / "whole"
+    whole.parent.mkdir(parents=True, exist_ok=True)
+    if not whole.exists():
         shutil.rmtree(kept, ignore_errors=True)
-        (results / "whole.log").write_text(check(kept), "utf-8")
+        said = check(kept, crates())
         if not kept.is_dir():
-            sys.exit(f"clauses.py: the crates aren't proved: {results}/whole.log says why")
-        (results / "whole").touch()
+            sys.exit(f"{said}clauses.py: the crates aren't proved")
+        whole.write_text(said, "utf-8")
     cases = [*cases_of_clauses(), *cases_of_fields()]
     if words:
         cases = [case for case in cases if any(word in case.name for word in words)]
 
-    symbols = PROVED.findall((results / "whole.log").read_text("utf-8"))
+    def keep(case, found):
+        case.log.write_text(found, "utf-8")
+        print(f"{case.name}: missed by {found}", flush=True)
 
-    def missing(case):
-        """Returns who misses the promise of a case, which is tried if it wasn't before."""
-        log = results / re.sub(r"\W+", ".", case.name)
-        if not log.exists():
-            near = functions_near(case.call, symbols) if case.call else []
-            said = check(kept, case, near) if near else ""
-            log.write_text(said if case.missed_by(said) else check(kept, case), "utf-8")
-        return case.missed_by(log.read_text("utf-8"))
+    def try_group(group):
+        few = sorted(set().union(*group.values()))
+        crate = crate_of(few[0])
+        said = check(kept, [*below(crate), crate], group, few)
+        for case in group:
+            found = case.missed_by(said)
+            if len(group) > 1:  # a lemma may miss each of them
+                found = [
+                    name for name in found if name in group[case] and not IN_A_LEMMA.search(said)
+                ]
+            if found:
+                keep(case, found[0])
 
-    unmissed = 0
+    def try_alone(case):
+        keep(case, [*case.missed_by(check(kept, crates(), [case])), "nobody"][0])
+
+    def left():
+        return [case for case in cases if not case.log.exists()]
+
     with ThreadPoolExecutor(lanes()) as pool:
-        for case, found in zip(cases, pool.map(missing, cases)):
-            print(f"{case.name}: missed by {found[0] if found else 'nobody'}", flush=True)
-            unmissed += not found
-    print(f"{len(cases)} tried, {unmissed} missed by nobody")
+        for most, callers_of_each in ((PROMISES_AT_ONCE, CALLERS_OF_EACH), (1, None)):
+            list(pool.map(try_group, groups_of(left(), most, callers_of_each)))
+        list(pool.map(try_alone, left()))
+    unmissed = [case.name for case in cases if case.log.read_text("utf-8") == "nobody"]
+    print("\n".join([f"{len(cases)} tried. Missed by nobody: {len(unmissed)}", *unmissed]))
 
 
 if __name__ == "__main__":
