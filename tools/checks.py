@@ -183,12 +183,11 @@ def kept_of(crate):
 def failures_of(crate, twins, pool):
     """Returns a line for each check of a crate that failed. The first group of twins is tried
     alone, over what was kept, or to keep it. The others are tried at once."""
-    kept = kept_of(crate)
-    tried = [pool.submit(private_fields, crate)]
-    for number, group in enumerate(groups_of(crate, twins)):
+    kept, tried = kept_of(crate), []
+    for group in groups_of(crate, twins):
         tried.append(pool.submit(refused, crate, group, kept))
-        if number == 0:
-            wait(tried)
+        wait(tried[:1])
+    tried.append(pool.submit(private_fields, crate))
     return [failure for ended in tried for failure in ended.result()]
 
 
@@ -212,7 +211,7 @@ def state_of(crate):
 
 def main(words):
     """Checks the libraries that the words name, or all, and returns the status."""
-    crates = [word for word in words if word != "--anew"] or LIBRARIES
+    crates = [word for word in words if word != "--anew"] or LIBRARIES[::-1]  # the longest first
     if unknown := set(crates) - set(LIBRARIES):
         sys.exit(f"checks.py: no library of the program is called {' '.join(sorted(unknown))}")
     OUT.mkdir(parents=True, exist_ok=True)

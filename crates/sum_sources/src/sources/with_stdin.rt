@@ -116,7 +116,8 @@ impl<I: Input + Drop, S: Source> Source for WithStdin<I, S> {
         }
     }
 
-    ghost use Rattle.sum_sources.specs.sources.{Source.IsOpen, Source.state_after_closing, WithStdin.parts_after_closing};
+    ghost use Rattle.sum_sources.specs.sources.Source.{IsOpen, state_after_closing};
+    ghost use Rattle.sum_sources.specs.sources.WithStdin.{parts_after_closing};
 
     fn close_file(&mut self, file: Opened<I, S::File>)
         requires { IsOpen (answer_of_both S.tells) (both_state self.old) (opened_state file) }
