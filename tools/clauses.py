@@ -1,13 +1,13 @@
 #!/usr/bin/env python3
 """Finds the promises that nobody misses: `tools/clauses.py [WORD ..]`, after a build.
 
-It empties each clause of a public call, and each field of a record to which such a clause leads: it
-puts `⊤` in its place. Then a few of the functions are proved that call what makes the promise, for
-several promises at once if no function calls two of them. A promise that this doesn't find missed
-is emptied alone, and all crates are proved. It is missed if a lemma isn't proved any more, or a
-function that doesn't have to keep it itself. With words, only those are tried whose names have one
-of them. Results are kept in out/clauses as long as no source changes, so a run that was ended goes
-on where it stopped."""
+It empties each clause of a public call, and each field of a record of statements to which such a
+clause leads: it puts `⊤` in its place. Then a few of the functions are proved that call what makes
+the promise, for several clauses at once if no function calls two of them. A promise that this
+doesn't find missed is emptied alone: its callers are proved, crate by crate, and then all else. It
+is missed if a function isn't proved any more that doesn't have to keep it itself, or a lemma that
+doesn't conclude it. With words, only those are tried whose names have one of them. Results are kept
+in out/clauses as long as no source changes, so a run that was ended goes on where it stopped."""
 
 import functools
 import hashlib
@@ -23,7 +23,7 @@ from pathlib import Path
 sys.dont_write_bytecode = True  # nothing is to be left beside these files
 
 import compiled
-from believed import cited, code, specs
+from believed import code, specs
 from checks import copy, lanes
 from items import clauses_in
 from sources import TOP, below, dependencies, text_of, tokens_of
@@ -37,40 +37,57 @@ IMPORTED = re.compile(r"(?m)^(?:ghost )?use Rattle\.std\.\S*Prelude\.\{(?:.*, )?
 # A record of statements has values as parameters, besides types. Each field is a statement.
 STATEMENT = re.compile(r"(?m)^pub record \w+ (?:[({].*: Type 0[)}] )?[({](?!.*: Type 0[)}])")
 FIELD = re.compile(r"(?m)^  pub (\w+) : (.*(?:\n      .*)*)")
-# What the kit prints of a function that it proves, of one that it doesn't, and of such a lemma.
+# What the kit prints of a function that is proved, of one that isn't, and of an error in a proof.
 PROVED = re.compile(r"(?m)^fn (\S+): proved")
-UNPROVED = re.compile(r"(?m)^fn (\S+): (?:not proved|no proof)")
-IN_A_LEMMA = re.compile(r"(\w+/proofs/[\w/]+\.antt):(\d+):\d+: error")
+UNPROVED = re.compile(r"(?m)^fn (\S+): (?:not proved|no proof)(.*)")
+IN_A_PROOF = re.compile(
+    r"(\w+/(?:proofs|specs)/[\w/]+)\.antt:(\d+):\d+: error: (?!\d+ declarations? that depends? on )"
+)
+LEMMA = re.compile(r"(?:pub )?(?:abbrev )?([^\s:]+) :")
+OF_A_FUNCTION = "Answers", "Invariants", "Proof"  # the files of its own proof
 CALLERS_OF_EACH, PROMISES_AT_ONCE = 3, 12  # at most, in the first round
 
 
 class Case:
     """A promise that is emptied: its name, such as `sum_lines put_line.behavior`; its file, where
     it stands there, and what is put in its place; the symbols of the functions that have to keep
-    it; and the file of who misses it, if it was tried."""
+    it, and the words of which it is a part; and the file of who misses it, if it was tried."""
 
-    def __init__(self, name, path, place, replacement, keepers):
+    def __init__(self, name, path, place, replacement, keepers, words=frozenset()):
         self.name, self.path, self.place, self.replacement = name, path, place, replacement
-        self.keepers, self.label = keepers, name.rpartition(".")[2]
+        self.keepers, self.words, self.label = keepers, words, name.rpartition(".")[2]
         self.log = OUT / state() / re.sub(r"\W+", ".", name)
 
     @functools.lru_cache(maxsize=None)
     def involved(self):
         """Returns the symbols of the functions that have to keep it, and of all their callers."""
-        names = {keeper.split("::")[-1] for keeper in self.keepers}
-        others = {name for name, called in beside().items() if called & names}
+        calls = set().union(*map(calls_of, self.keepers))
+        others = {name for name, called in beside().items() if called & calls}
         return self.keepers.union(others, *(callers().get(keeper, ()) for keeper in self.keepers))
 
-    def missed_by(self, output):
-        """Returns the functions and lemmas that the kit's output says aren't proved any more,
-        without those that state the promise."""
-        functions = [name for name in UNPROVED.findall(output) if name not in self.keepers]
-        lemmas = []
-        for path, line in IN_A_LEMMA.findall(output):
-            row = text_of("crates", path).split("\n")[int(line) - 1]
-            if not re.search(rf"\b{self.label} =", row):
-                lemmas.append(f"{path}:{line}")
-        return functions + lemmas
+    def missed_by(self, functions, lemmas):
+        """Returns those of the functions and lemmas that don't state the promise."""
+        found = [name for name in functions if name not in self.keepers]
+        texts = texts_without([self])
+        for path, line in lemmas:
+            text = texts.get(f"crates/{path}") or text_of("crates", path)
+            row, said = text.split("\n")[int(line) - 1], conclusion_of(text, int(line))
+            if not re.search(rf"\b{self.label} =", row) and not self.words & said:
+                found.append(f"{path}:{line}")
+        return found
+
+
+def conclusion_of(text, line):
+    """Returns the words of what a lemma concludes, which has an error on this line of a file."""
+    rows = text.split("\n")
+    start = next((row for row in range(line - 1, -1, -1) if LEMMA.match(rows[row])), 0)
+    name = LEMMA.match(rows[start])
+    statement = rows[start : start + 1]
+    for row in rows[start + 1 :]:
+        if not row or name and row.startswith(f"{name[1]} "):
+            break
+        statement.append(row)
+    return {*re.findall(r"[\w≡-]+", " ".join(statement).rpartition(" → ")[2])}
 
 
 def public_calls():
@@ -102,9 +119,16 @@ def cases_of_clauses():
                 yield Case(name, path, place, "{ ⊤ }", keepers_of(item))
 
 
+def promised(item):
+    """Returns the definitions to which what a function ensures leads."""
+    clauses = [clause for clause in item.clauses if clause.label]
+    named = [specs().named(clause.tokens, item.uses) for clause in clauses]
+    return specs().reached(set().union(*named))
+
+
 def cases_of_fields():
     """Yields a case for each field of a record of statements to which a public call leads."""
-    led_to = {item: specs().reached(cited([item])) for item in code().functions}
+    led_to = {item: promised(item) for item in code().functions}
     public = set().union(*(led_to[item] for item in public_calls()))
     for definition in sorted(public, key=lambda definition: definition.name):
         block = "\n".join(definition.lines)
@@ -113,9 +137,24 @@ def cases_of_fields():
             start = text_of(path).index(block)
             keepers = {item.symbol for item in code().functions if definition in led_to[item]}
             for field in FIELD.finditer(block):
+                if len(re.findall(rf"(?<![.\w]){field[1]}\b", block.partition("where")[2])) > 1:
+                    continue  # it is a value, since others speak of it
                 place = slice(start + field.start(2), start + field.end(2))
                 name = f"{definition.module.crate} {definition.name}.{field[1]}"
-                yield Case(name, path, place, "⊤", keepers)
+                yield Case(name, path, place, "⊤", keepers, words_with(definition))
+
+
+@functools.lru_cache(maxsize=None)
+def parts():
+    """Returns the parts of each definition: all definitions that it reaches."""
+    modules = specs().modules.values()
+    every = [found for module in modules for found in module.definitions.values()]
+    return {found: specs().reached([found]) for found in every}
+
+
+def words_with(definition):
+    """Returns the names of the definitions of which this one is a part."""
+    return {whole.name for whole, reached in parts().items() if definition in reached}
 
 
 def texts_without(cases):
@@ -154,19 +193,42 @@ def callers():
     return found
 
 
+def calls_of(symbol):
+    """Returns how a call of a function may be written."""
+    *_, owner, name = symbol.split("::")
+    return {f"{owner}::{name}", f".{name}"} if owner[0].isupper() else {name, f"{owner}::{name}"}
+
+
 @functools.lru_cache(maxsize=None)
 def beside():
-    """Returns the functions of the crates beside the program's libraries, each with the names that
-    its file calls."""
+    """Returns the functions of the crates beside the program's libraries, each with the calls that
+    its text seems to have."""
     found = {}
     for symbol in PROVED.findall((OUT / state() / "whole").read_text("utf-8")):
-        crate, *parts = symbol.split("::")
+        crate, *parts, name = symbol.split("::")
         source = Path(TOP, "crates", crate, "src")
-        paths = [source.joinpath(*parts[:-1]).with_suffix(".rt"), source / "lib.rt"]
+        paths = [source.joinpath(*parts).with_suffix(".rt"), source / "lib.rt"]
         path = next((path for path in paths if path.exists()), None)
         if path and crate not in compiled.LIBRARIES:
-            found[symbol] = {*re.findall(r"(\w+)(?:::<[^()]*>)?\(", path.read_text("utf-8"))}
+            text = re.sub(r"::<[^()]*?>", "", path.read_text("utf-8"))
+            own = re.search(rf"(?s)\bfn {name}\b(.*?)(?:\bfn |\Z)", text)
+            calls = re.findall(r"((?:\w+::|\.)?\w+)\(", own[1] if own else text)
+            found[symbol] = {*calls, *(call.split("::")[-1] for call in calls)}
     return found
+
+
+def failed(output):
+    """Returns the functions and the lemmas, a path and a line each, that the kit's output says
+    aren't proved, without those of which only what they name isn't."""
+    places = [(Path(path), line) for path, line in IN_A_PROOF.findall(output)]
+    own = {str(path.parent) for path, _ in places if path.name in OF_A_FUNCTION}
+    lemmas = [(f"{path}.antt", line) for path, line in places if path.name not in OF_A_FUNCTION]
+    functions = []
+    for symbol, why in UNPROVED.findall(output):
+        folder = symbol.replace("::", "/proofs/", 1).replace("::", "/")
+        if "`search` did not prove" in why or folder in own:
+            functions.append(symbol)
+    return functions, lemmas
 
 
 def check(kept, names, cases=(), only=()):
@@ -211,13 +273,12 @@ def state():
 
 
 def callers_of(case):
-    """Returns who calls what makes a promise, without those that have to keep it: all of the lowest
-    crate that has any."""
-    found = case.involved() - case.keepers
-    for crate in crates():
-        if of_crate := sorted(name for name in found if crate_of(name) == crate):
-            return of_crate
-    return []
+    """Returns who calls what makes a promise, without those that have to keep it: a list for each
+    crate, the lowest first."""
+    found, makes = sorted(case.involved() - case.keepers), case.name.split()[0]
+    above = [crate for crate in crates() if makes in (crate, *below(crate))]
+    lists = [[name for name in found if crate_of(name) == crate] for crate in above]
+    return [of_crate for of_crate in lists if of_crate]
 
 
 def crate_of(symbol):
@@ -225,13 +286,13 @@ def crate_of(symbol):
     return symbol.split("::")[0]
 
 
-def groups_of(cases, most, callers_of_each):
-    """Returns the cases that have callers in groups of at most so many; in each, some callers of
-    each case. These are of one crate, and none has to do with another promise of the group."""
+def groups_of(cases):
+    """Returns the cases that have callers in groups; in each, some callers of each case. These are
+    of one crate, and none has to do with another promise of the group."""
     groups = []
 
     def fits(group, case, few):
-        return len(group) < most and all(
+        return len(group) < PROMISES_AT_ONCE and all(
             crate_of(few[0]) == crate_of(group[other][0])
             and not other.involved().intersection(few)
             and not case.involved().intersection(group[other])
@@ -239,7 +300,8 @@ def groups_of(cases, most, callers_of_each):
         )
 
     for case in cases:
-        if few := callers_of(case)[:callers_of_each]:
+        for few in callers_of(case)[:1]:
+            few = few[:CALLERS_OF_EACH]
             group = next((group for group in groups if fits(group, case, few)), None)
             if group is None:
                 group = {}
@@ -269,25 +331,26 @@ def main(words):
     def try_group(group):
         few = sorted(set().union(*group.values()))
         crate = crate_of(few[0])
-        said = check(kept, [*below(crate), crate], group, few)
-        for case in group:
-            found = case.missed_by(said)
-            if len(group) > 1:  # a lemma may miss each of them
-                found = [
-                    name for name in found if name in group[case] and not IN_A_LEMMA.search(said)
-                ]
-            if found:
+        functions, lemmas = failed(check(kept, [*below(crate), crate], group, few))
+        for case, of_case in group.items():
+            found = [name for name in functions if name in of_case]
+            if found and not lemmas:  # a lemma may miss each of them
                 keep(case, found[0])
 
     def try_alone(case):
-        keep(case, [*case.missed_by(check(kept, crates(), [case])), "nobody"][0])
+        for few in callers_of(case):
+            crate = crate_of(few[0])
+            ended = failed(check(kept, [*below(crate), crate], [case], few))
+            if found := case.missed_by(*ended):
+                return keep(case, found[0])
+        return keep(case, [*case.missed_by(*failed(check(kept, crates(), [case]))), "nobody"][0])
 
     def left():
         return [case for case in cases if not case.log.exists()]
 
     with ThreadPoolExecutor(lanes()) as pool:
-        for most, callers_of_each in ((PROMISES_AT_ONCE, CALLERS_OF_EACH), (1, None)):
-            list(pool.map(try_group, groups_of(left(), most, callers_of_each)))
+        clauses = [case for case in left() if not case.words]  # a lemma misses most fields
+        list(pool.map(try_group, groups_of(clauses)))
         list(pool.map(try_alone, left()))
     unmissed = [case.name for case in cases if case.log.read_text("utf-8") == "nobody"]
     print("\n".join([f"{len(cases)} tried. Missed by nobody: {len(unmissed)}", *unmissed]))

@@ -5,8 +5,9 @@ ghost use Rattle.std.specs.Prelude.{Err, IfErr, List, [], ◌∷◌, ◌++◌, c
 ghost use Rattle.std.specs.Prelude.{slice_index_or, map};
 ghost use Rattle.sum_engine.specs.Behavior.{Step, World, answer_to, trace};
 ghost use Rattle.sum_engine.specs.Execution.{Agrees, AsksNames, Happened, PerformsSteps, opened_names, world_at};
-ghost use Rattle.sum_engine.specs.{Execution.RefusesMemory, Generate.generate_behavior, Laws.TakesSteps};
-ghost use Rattle.sum_engine.specs.{OldVerdicts.ContentSaidOnce, OldVerdicts.IsOldManifest, Streams.StreamsState};
+ghost use Rattle.sum_engine.specs.{Execution.ReadsToEndIf, Execution.RefusesMemory, Generate.generate_behavior};
+ghost use Rattle.sum_engine.specs.{Laws.TakesSteps, OldVerdicts.ContentSaidOnce, OldVerdicts.IsOldManifest};
+ghost use Rattle.sum_engine.specs.{Streams.StreamsState, check.Verdicts.IsNotUnread};
 ghost use Rattle.sum_engine.specs.check.CheckOne.{check_behavior, content_behavior, remaining_before};
 ghost use Rattle.sum_engine.specs.check.{Checker.IsStep, Counts.counts_and_line};
 ghost use Rattle.sum_engine.specs.check.Judge.{all_verdicts, verdicts, LineVerdictValue, asks_of, HasNameRange};
@@ -134,6 +135,18 @@ pub fn takes_line<A: Allocator, I: Input, S: Source>(
         × (q.form ≡ form_then p.form (line_form p.rules.algo l)) × (q.counts ≡ counts_and_line p.counts v) }
 {
     matches!(verdicts.next(line, inputs), Ok(Some(_)))
+}
+
+/// Finds the next verdict. What was opened was read to its end, unless the verdict is that it could not be.
+pub fn reads_whole_files<A: Allocator, I: Input, S: Source>(
+    verdicts: &mut Verdicts<I>,
+    line: &mut Vec<u8, A>,
+    inputs: &mut Inputs<S>,
+) -> Result<Option<LineVerdict>, LineStop>
+    requires going { verdicts.old.outcome ≡ None }
+    ensures { ReadsToEndIf (IsNotUnread result) inputs.old inputs.new }
+{
+    verdicts.next(line, inputs)
 }
 
 /// Finds the next verdict, and returns whether no line was left, whole or broken: nothing of the manifest then remains.

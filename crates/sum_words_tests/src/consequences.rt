@@ -1,6 +1,7 @@
 //! What the contracts of words and of tools give a caller.
 ghost use Rattle.std.specs.Option.{option_copied};
-ghost use Rattle.std.specs.Prelude.{◌≡◌, ◌⊎◌, ◌-◌, ◌∷◌, ◌++◌, [], Ok, OnOk, OnErr, codes, length, slice_get};
+ghost use Rattle.std.specs.Prelude.{◌≡◌, ◌≢◌, ◌⊎◌, ◌↔◌, ◌-◌, ◌∷◌, ◌++◌, [], IsTrue, Ok, OnOk, OnErr, codes, length};
+ghost use Rattle.std.specs.Prelude.{slice_get};
 
 use std::alloc::Allocator;
 use sum_words::{NoRoom, Tool, UnknownTool, Words};
@@ -21,6 +22,13 @@ pub fn last_word<A: Allocator>(words: &Words<A>) -> Option<&[u8]>
     ensures { option_copied result ≡ slice_get words.now (length words.now - 1) }
 {
     words.get(words.len().checked_sub(1)?)
+}
+
+/// Returns whether there is a word.
+pub fn has_words<A: Allocator>(words: &Words<A>) -> bool
+    ensures { IsTrue result ↔ (words.now ≢ []) }
+{
+    !words.is_empty()
 }
 
 /// Returns the tool from its name.
