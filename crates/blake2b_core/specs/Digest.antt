@@ -1,10 +1,8 @@
 -- The BLAKE2b digest of a message, without a key (RFC 7693, 3.3).
 use Rattle.std.specs.List.{range_with_len}
-use Rattle.std.specs.Prelude.{◌≡◌, ℕ, ◌+◌, ◌-◌, ◌*◌, ◌/◌, ◌≤◌, true, false, List, [], ◌++◌, length, take, drop, fold}
-use Rattle.std.specs.Prelude.{replicate, slice_index_or, slice_set, flat_map, EachIndex}
+use Rattle.std.specs.Prelude.{◌≡◌, ℕ, ◌+◌, ◌-◌, ◌*◌, ◌/◌, ◌≤◌, true, false, List, [], ◌++◌, length, take, drop, fold, replicate, slice_index_or, slice_set, flat_map, EachIndex}
 use Rattle.byteorder.specs.Endian.{little_bytes}
-use Rattle.blake2b_core.specs.Bytes.{ByteString}
-use Rattle.blake2b_core.specs.Compression.{◌!◌, ◌⊻◌, iv, compress}
+use Rattle.blake2b_core.specs.{Bytes.ByteString, Compression.◌!◌, Compression.◌⊻◌, Compression.iv, Compression.compress}
 
 -- a digest can have n bytes (2.1)
 abbrev pub IsDigestLen : ℕ → Type 0

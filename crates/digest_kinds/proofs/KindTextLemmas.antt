@@ -1,15 +1,9 @@
 -- What follows a tag is read as the width of a kind, and the text of a kind names it.
-use Rattle.std.proofs.Common.{ℕ, ◌≤◌, IsUtf8, ◌≡◌, true, List, [], ◌∷◌, ◌++◌, length, drop, Some, refl, ap, inl, inr}
-use Rattle.std.proofs.Common.{arith, rules, take_while, option_map, decimal, ◌*◌}
-use Rattle.std.proofs.lemmas.{Fmt.IsAscii-decimal, Fmt.length-decimal-le, Grind.common_steps, List.drop_at}
-use Rattle.std.{proofs.lemmas.Str.IsAscii-append, proofs.lemmas.Str.IsUtf8-from_ascii, specs.Char.is_ascii_digit}
-use Rattle.digest_kinds.proofs.BitsLemmas.{kind_of_digits-bits, kind_of_digits-some, decimal-digits}
-use Rattle.digest_kinds.proofs.KindLemmas.{has_len-range}
+use Rattle.std.proofs.Common.{ℕ, ◌≤◌, IsUtf8, ◌≡◌, true, List, [], ◌∷◌, ◌++◌, length, drop, Some, refl, ap, inl, inr, arith, rules, take_while, option_map, decimal, ◌*◌}
+use Rattle.std.{proofs.lemmas.Fmt.IsAscii-decimal, proofs.lemmas.Fmt.length-decimal-le, proofs.lemmas.Grind.common_steps, proofs.lemmas.List.drop_at, proofs.lemmas.Str.IsAscii-append, proofs.lemmas.Str.IsUtf8-from_ascii, specs.Char.is_ascii_digit}
+use Rattle.digest_kinds.{proofs.KindLemmas.has_len-range, proofs.BitsLemmas.kind_of_digits-bits, proofs.BitsLemmas.kind_of_digits-some, proofs.BitsLemmas.decimal-digits, proofs.TagLemmas.find-begins, specs.Kind.KindValue}
+use Rattle.digest_kinds.specs.{Kind.full_kind, KindText.IsWidth, KindText.NamesKind, KindText.kind_and_rest, KindText.kind_of_digits, KindText.kind_text, Bytes.after_while, Algo.Algo, Algo.Blake2b, Algo.BeginsWithTag, Algo.has_len, Algo.tag}
 use Rattle.digest_kinds.proofs.PrefixLemmas.{map_some, prefix_passes, prefix-and-rest, prefix_len-all}
-use Rattle.digest_kinds.proofs.TagLemmas.{find-begins}
-use Rattle.digest_kinds.specs.Algo.{Algo, Blake2b, BeginsWithTag, has_len, tag}
-use Rattle.digest_kinds.specs.{Bytes.after_while, Kind.KindValue, Kind.full_kind}
-use Rattle.digest_kinds.specs.KindText.{IsWidth, NamesKind, kind_and_rest, kind_of_digits, kind_text}
 
 -- what follows an algorithm's tag is the width of a kind of that algorithm, and then what is left
 pub record HasWidth (a : Algo) (s : List ℕ) (w : KindValue × List ℕ) : Type 0 where

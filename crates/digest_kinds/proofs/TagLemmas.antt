@@ -1,9 +1,7 @@
 -- Searching the algorithms for one whose tag begins the bytes.
-use Rattle.std.proofs.Common.{◌≡◌, refl, sym, ℕ, Bool, true, List, [], ◌∷◌, ◌++◌, ◌==◌, drop, length, Option, None}
-use Rattle.std.proofs.Common.{Some, IfSome, find, arith}
+use Rattle.std.proofs.Common.{◌≡◌, refl, sym, ℕ, Bool, true, List, [], ◌∷◌, ◌++◌, ◌==◌, drop, length, Option, None, Some, IfSome, find, arith}
 use Rattle.std.{proofs.lemmas.Bool.Decides.Decides-eqb, proofs.lemmas.Slice.Eq.starts_is, specs.List.starts_with}
-use Rattle.digest_kinds.proofs.PrefixLemmas.{none_of}
-use Rattle.digest_kinds.specs.Algo.{all_algos, tag, BeginsWithTag, Algo}
+use Rattle.digest_kinds.{proofs.PrefixLemmas.none_of, specs.Algo.all_algos, specs.Algo.tag, specs.Algo.BeginsWithTag, specs.Algo.Algo}
 
 -- whether the algorithm's tag is a prefix of the bytes
 abbrev pub begins : List ℕ → Algo → Bool

@@ -4,8 +4,7 @@ use Rattle.md5.specs.Md5.{md5}
 use Rattle.sha1.specs.Sha1.{sha1}
 use Rattle.sha2.specs.{Sha256.sha224, Sha256.sha256, Sha512.sha384, Sha512.sha512}
 use Rattle.blake2b_core.specs.{Bytes.ByteString, Digest.blake2b}
-pub use Rattle.digest_kinds.specs.declared.algo.Algo.{Algo}
-pub use Rattle.digest_kinds.specs.declared.algo.Algo.TheVariants.{Md5, Sha1, Sha224, Sha256, Sha384, Sha512, Blake2b}
+pub use Rattle.digest_kinds.specs.declared.algo.Algo.{Algo, TheVariants.Md5, TheVariants.Sha1, TheVariants.Sha224, TheVariants.Sha256, TheVariants.Sha384, TheVariants.Sha512, TheVariants.Blake2b}
 
 -- all algorithms
 abbrev pub all_algos : List Algo

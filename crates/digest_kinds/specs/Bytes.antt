@@ -1,6 +1,5 @@
 -- Terms about bytes that several crates use. Nothing here names a digest, a line, a file or an option.
-use Rattle.std.specs.List.{prefix_len}
-use Rattle.std.specs.Prelude.{ℕ, Bool, Option, option_and_then, drop}
+use Rattle.std.specs.{List.prefix_len, Prelude.ℕ, Prelude.Bool, Prelude.Option, Prelude.option_and_then, Prelude.drop}
 pub use Rattle.blake2b_core.specs.{Bytes.ByteString, declared.incremental.TheConstants.LIMIT}
 
 -- option >>= next: the result of `next` for the value in the option, if it has one

@@ -1,7 +1,6 @@
 -- Kinds: an algorithm with its digest's length. Their digests.
 use Rattle.std.specs.Prelude.{ℕ, ◌/◌, ◌%◌, ◌==◌, nat_lt, Result, Ok, Err, if◌then◌else◌}
-use Rattle.digest_kinds.specs.{Algo.Algo, Algo.Blake2b, Algo.algo_facts, Algo.full_len, Bytes.ByteString}
-use Rattle.digest_kinds.specs.declared.kind.LengthFault.{LengthFault, TheVariants.TooLong, TheVariants.NotBytes}
+use Rattle.digest_kinds.specs.{Algo.Algo, Algo.Blake2b, Algo.algo_facts, Algo.full_len, Bytes.ByteString, declared.kind.LengthFault.LengthFault, declared.kind.LengthFault.TheVariants.TooLong, declared.kind.LengthFault.TheVariants.NotBytes}
 
 -- a kind: an algorithm and the number of bytes of its digest
 pub record KindValue : Type 0 where

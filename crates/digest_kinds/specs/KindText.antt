@@ -1,11 +1,7 @@
 -- The texts that name kinds.
-use Rattle.std.specs.Char.{is_ascii_digit}
-use Rattle.std.specs.Prelude.{◌≡◌, ℕ, ◌*◌, ◌⊎◌, ◌==◌, ◌&&◌, not, nat_lt, [], ◌∷◌, ◌++◌, length, codes, IsTrue, Option}
-use Rattle.std.specs.Prelude.{None, Some, option_map, if◌then◌else◌, decimal, take_while}
-use Rattle.std.specs.{Result.result_ok, Str.byte, Str.Parse.digits_value}
-use Rattle.digest_kinds.specs.Algo.{Algo, Blake2b, full_len, has_len, tag}
-use Rattle.digest_kinds.specs.Bytes.{ByteString, ◌>>=◌, after_while}
-use Rattle.digest_kinds.specs.Kind.{KindValue, full_kind, blake2b_of_bits}
+use Rattle.std.specs.Prelude.{◌≡◌, ℕ, ◌*◌, ◌⊎◌, ◌==◌, ◌&&◌, not, nat_lt, [], ◌∷◌, ◌++◌, length, codes, IsTrue, Option, None, Some, option_map, if◌then◌else◌, decimal, take_while}
+use Rattle.std.specs.{Char.is_ascii_digit, Result.result_ok, Str.byte, Str.Parse.digits_value}
+use Rattle.digest_kinds.specs.{Algo.Algo, Algo.Blake2b, Algo.full_len, Algo.has_len, Algo.tag, Bytes.ByteString, Bytes.◌>>=◌, Bytes.after_while, Kind.KindValue, Kind.full_kind, Kind.blake2b_of_bits}
 
 -- the text that names a kind: the tag and, for a BLAKE2b digest that isn't full, its bits, as in `BLAKE2b-256`
 abbrev pub kind_text : KindValue → ByteString

@@ -1,12 +1,9 @@
 -- Operands, one after another: after those before, the rest completes the whole.
 use Rattle.std.proofs.Common.{◌≡◌, ℕ, Bool, true, List, [], ◌∷◌, ◌++◌, Option, None, Some, Result, Ok, Err, ◌&&◌, Bor}
 use Rattle.std.{proofs.Math.Bool.and_assoc, proofs.lemmas.Bool.and_parts, specs.Iterator.YieldsFirstRef}
-use Rattle.sum_engine.proofs.BehaviorLemmas.{behavior_then-happened, behavior_then-first, behavior_then-second}
-use Rattle.sum_engine.proofs.BehaviorLemmas.{events_extend}
-use Rattle.sum_engine.proofs.WorldLemmas.{reads_then, agrees_before, world_at_after}
-use Rattle.sum_engine.specs.Behavior.{World, world_after, Step, Behavior, trace, asks}
+use Rattle.sum_engine.specs.{Behavior.World, Behavior.world_after, Behavior.Step, Behavior.Behavior, Behavior.trace, Behavior.asks, Streams.StreamsState}
 use Rattle.sum_engine.specs.Execution.{ReadsToEndIf, Agrees, world_at, Happened, Performs, PerformsSteps}
-use Rattle.sum_engine.specs.Streams.{StreamsState}
+use Rattle.sum_engine.proofs.{WorldLemmas.reads_then, WorldLemmas.agrees_before, WorldLemmas.world_at_after, BehaviorLemmas.behavior_then-happened, BehaviorLemmas.behavior_then-first, BehaviorLemmas.behavior_then-second, BehaviorLemmas.events_extend}
 use Rattle.digest_kinds.specs.Bytes.{ByteString}
 use Rattle.sum_settings.specs.declared.stop.Stop.{Stop}
 use Rattle.digests.specs.Meaning.{operands_behavior, status_of}

@@ -1,15 +1,11 @@
 -- A run and its end, joined: what the whole program does.
-use Rattle.std.proofs.Common.{arith, ℕ, List, [], ◌∷◌, ◌++◌, Option, None, Result, Ok, Err, false, refl, ◌∙◌}
-use Rattle.std.proofs.Common.{append_assoc, append-nil}
-use Rattle.sum_engine.proofs.{ExecutionLemmas.Happened-then, ExecutionLemmas.step_performed, WorldLemmas.asks_none}
-use Rattle.sum_engine.specs.Behavior.{World, Step, Behavior, trace, single_step}
-use Rattle.sum_engine.specs.Execution.{world_at, Performs, PerformsSteps}
-use Rattle.sum_engine.specs.Streams.{BothOutputs, StreamsState, FailuresMatch, WritesBoth, WritesAndReturns}
+use Rattle.std.proofs.Common.{arith, ℕ, List, [], ◌∷◌, ◌++◌, Option, None, Result, Ok, Err, false, refl, ◌∙◌, append_assoc, append-nil}
+use Rattle.sum_engine.specs.{Behavior.World, Behavior.Step, Behavior.Behavior, Behavior.trace, Behavior.single_step, Streams.BothOutputs, Streams.StreamsState, Streams.FailuresMatch, Streams.WritesBoth, Streams.WritesAndReturns, Execution.world_at}
+use Rattle.sum_engine.{specs.Execution.Performs, specs.Execution.PerformsSteps, proofs.ExecutionLemmas.Happened-then, proofs.ExecutionLemmas.step_performed, proofs.WorldLemmas.asks_none}
 use Rattle.digest_kinds.specs.Bytes.{ByteString}
 use Rattle.sum_settings.specs.declared.stop.Stop.{Stop, TheVariants.Memory, TheVariants.Write}
 use Rattle.sum_words.specs.declared.tool.Tool.{Tool}
-use Rattle.digests.{proofs.MessageLemmas.Performs-texts, specs.Meaning.status_of}
-use Rattle.digests.specs.{Program.CallPerforms, Program.CallRefuses, private.Finish.FinishesRun, private.Finish.Refuses}
+use Rattle.digests.{proofs.MessageLemmas.Performs-texts, specs.Meaning.status_of, specs.Program.CallPerforms, specs.Program.CallRefuses, specs.private.Finish.FinishesRun, specs.private.Finish.Refuses}
 
 -- a run that returned is still performed once both outputs were given an empty text, or it failed after all events
 Performs-flushed : (run : World → Behavior) (a b : StreamsState) (outputs : BothOutputs) (x : ℕ)

@@ -1,21 +1,15 @@
 -- What generation writes is good under checking.
-use Rattle.std.proofs.Common.{rules, ◌≡◌, ℕ, false, List, [], ◌∷◌, length, map, refl, ap, sym, ◌∙◌, append-nil, map-id}
-use Rattle.std.proofs.Common.{Ok, flat_map, All, Err}
-use Rattle.std.proofs.lemmas.List.{length-map, map-append, Concat.flat_map-append}
+use Rattle.std.proofs.Common.{rules, ◌≡◌, ℕ, false, List, [], ◌∷◌, length, map, refl, ap, sym, ◌∙◌, append-nil, map-id, Ok, flat_map, All, Err}
 use Rattle.std.proofs.lemmas.List.Elements.{All-nil, All-head, All-tail, All-append, All-map}
-use Rattle.std.proofs.lemmas.{List.Folds.flat_map-map, Simd.map-map}
+use Rattle.std.proofs.lemmas.{List.length-map, List.map-append, List.Concat.flat_map-append, List.Folds.flat_map-map, Simd.map-map}
 use Rattle.digest_kinds.specs.{Bytes.ByteString, Kind.digest, declared.algo.Algos.Algos}
-use Rattle.sum_engine.proofs.GoodLemmas.{manifest_good}
-use Rattle.sum_engine.proofs.ListedEntryLemmas.{Item, written_text, Listed}
-use Rattle.sum_engine.specs.Behavior.{World, answer_to, world_after, digest_or_fault, out_text, asks}
-use Rattle.sum_engine.specs.{Generate.generate_behavior, check.Report.out_by}
-use Rattle.sum_engine.specs.declared.check.judge.Verdict.TheVariants.{Right}
+use Rattle.sum_engine.proofs.{GoodLemmas.manifest_good, ListedEntryLemmas.Item, ListedEntryLemmas.written_text, ListedEntryLemmas.Listed}
+use Rattle.sum_engine.specs.{Behavior.World, Behavior.answer_to, Behavior.world_after, Behavior.digest_or_fault, Behavior.out_text, Behavior.asks, Generate.generate_behavior, check.Report.out_by, declared.check.judge.Verdict.TheVariants.Right}
 use Rattle.sum_settings.specs.declared.settings.Settings.{Settings}
 use Rattle.sum_sources.specs.sources.Source.{times, AnswerValue}
 use Rattle.sum_words.specs.Tool.{name_of}
-use Rattle.digests.proofs.CheckWords.{request-check_words}
-use Rattle.digests.specs.GenerationRuns.{IsListable, GenerationRun, generation_output, IsCheckable, HasFiles}
-use Rattle.digests.specs.{GenerationRuns.IsAccepted, Meaning.operands_behavior}
+use Rattle.digests.specs.GenerationRuns.{IsListable, GenerationRun, generation_output, IsCheckable, HasFiles, IsAccepted}
+use Rattle.digests.{proofs.CheckWords.request-check_words, specs.Meaning.operands_behavior}
 
 -- ---- the lines of a run
 

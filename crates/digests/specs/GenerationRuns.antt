@@ -1,16 +1,11 @@
 -- What generation wrote is good: a later check of it reports OK for each file, if the files remain unchanged.
-use Rattle.std.specs.Prelude.{ℕ, ◌≡◌, ◌<◌, false, List, [], ◌∷◌, ◌++◌, IsTrue, length, map, flat_map, codes, All, Ok}
-use Rattle.std.specs.Prelude.{if◌then◌else◌, option_to_list}
+use Rattle.std.specs.Prelude.{ℕ, ◌≡◌, ◌<◌, false, List, [], ◌∷◌, ◌++◌, IsTrue, length, map, flat_map, codes, All, Ok, if◌then◌else◌, option_to_list}
 use Rattle.digest_kinds.specs.{Algo.has_len, Bytes.ByteString, declared.algo.Algos.Algos}
 use Rattle.sum_settings.specs.declared.settings.{CheckSettings.CheckSettings, Report.Report, Settings.Settings}
 use Rattle.sum_lines.specs.grammar.LineLaws.{AllowsMode}
-use Rattle.sum_sources.specs.{declared.fault.Ending.TheVariants.Whole, inputs.Input.limit}
-use Rattle.sum_sources.specs.sources.{Source.AnswerValue, WithStdin.is_dash}
-use Rattle.sum_engine.specs.Behavior.{World, Behavior, answer_to, out_text, err_text}
-use Rattle.sum_engine.specs.{Generate.generate_behavior, check.Report.out_by}
-use Rattle.sum_engine.specs.declared.check.judge.Verdict.TheVariants.{Right}
-use Rattle.sum_words.specs.{Tool.algos_of, declared.parsing.options.Flag.Flag, declared.tool.Tool.Tool}
-use Rattle.sum_words.specs.parsing.{Options.full_name, Request.report_flag}
+use Rattle.sum_sources.specs.{declared.fault.Ending.TheVariants.Whole, inputs.Input.limit, sources.Source.AnswerValue, sources.WithStdin.is_dash}
+use Rattle.sum_engine.specs.{Behavior.World, Behavior.Behavior, Behavior.answer_to, Behavior.out_text, Behavior.err_text, Generate.generate_behavior, check.Report.out_by, declared.check.judge.Verdict.TheVariants.Right}
+use Rattle.sum_words.specs.{Tool.algos_of, declared.parsing.options.Flag.Flag, declared.tool.Tool.Tool, parsing.Options.full_name, parsing.Request.report_flag}
 use Rattle.digests.specs.Meaning.{operands_behavior, meaning, status_of}
 use Rattle.sum_words.specs.declared.parsing.options.Flag.TheVariants as flags
 

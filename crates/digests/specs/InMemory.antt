@@ -3,12 +3,9 @@ use Rattle.std.specs.Prelude.{ℕ, ◌≡◌, ◌⊎◌, List, Option, None, Som
 use Rattle.digest_kinds.specs.Bytes.{ByteString}
 use Rattle.sum_settings.specs.declared.stop.Stop.{Stop}
 use Rattle.sum_sources.specs.sources.Source.{Answers, ToldAnswers, TellsAll}
-use Rattle.sum_engine.specs.{Behavior.World, Execution.opened_names, Execution.ReadsToEndIf, Execution.PerformsSteps}
-use Rattle.sum_engine.specs.{Execution.Performs, Streams.StreamsState}
-use Rattle.sum_words.specs.{Arguments.ArgumentsState, CommandLine.command_line, CommandLine.NeedsMemory}
-use Rattle.sum_words.specs.declared.tool.Tool.{Tool}
-use Rattle.digests.specs.Meaning.{meaning, status_of}
-use Rattle.digests.specs.Program.{CallPerforms, CallRefuses, ProgramPerforms, unknown_tool_line, not_read_line}
+use Rattle.sum_engine.specs.{Behavior.World, Execution.opened_names, Execution.ReadsToEndIf, Execution.PerformsSteps, Execution.Performs, Streams.StreamsState}
+use Rattle.sum_words.specs.{Arguments.ArgumentsState, CommandLine.command_line, CommandLine.NeedsMemory, declared.tool.Tool.Tool}
+use Rattle.digests.specs.{Meaning.meaning, Meaning.status_of, Program.CallPerforms, Program.CallRefuses, Program.ProgramPerforms, Program.unknown_tool_line, Program.not_read_line}
 
 -- suppose that a tool ran on some words, as its contract says, and left the streams in this state. If its source tells
 -- all answers, it performed exactly the behavior that the words mean by these answers

@@ -1,12 +1,9 @@
 -- What a tool's words mean: a behavior, its status, and how often its source may be refused memory.
 use Rattle.std.specs.Prelude.{ℕ, Bool, true, false, List, [], ◌∷◌, Result, Ok, Err, codes, if◌then◌else◌}
 use Rattle.digest_kinds.specs.Bytes.{ByteString}
-use Rattle.sum_engine.specs.Behavior.{World, world_after, Behavior, behavior_then, single_step, asks}
-use Rattle.sum_engine.specs.{Generate.generate_behavior, check.CheckOne.check_behavior}
-use Rattle.sum_words.specs.{Tool.name_of, declared.parsing.request.Request.Request}
+use Rattle.sum_engine.specs.{Behavior.World, Behavior.world_after, Behavior.Behavior, Behavior.behavior_then, Behavior.single_step, Behavior.asks, Generate.generate_behavior, check.CheckOne.check_behavior}
 use Rattle.sum_words.specs.declared.parsing.request.Request.TheVariants.{Generate, Check, Help, Version}
-use Rattle.sum_words.specs.{declared.tool.Tool.Tool, messages.FaultLines.fault_lines, messages.Help.help}
-use Rattle.sum_words.specs.{messages.Help.version, parsing.Request.request, parsing.WordFault.WordFaultValue}
+use Rattle.sum_words.specs.{messages.Help.help, messages.Help.version, Tool.name_of, declared.parsing.request.Request.Request, declared.tool.Tool.Tool, messages.FaultLines.fault_lines, parsing.Request.request, parsing.WordFault.WordFaultValue}
 
 -- the behavior of names, one after another. Each begins in the world that the earlier ones leave
 abbrev pub operands_behavior : (World → ByteString → Behavior) → World → List ByteString → Behavior

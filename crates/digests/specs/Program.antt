@@ -1,14 +1,11 @@
 -- What the program does, from the list of its arguments to its status.
-use Rattle.std.specs.Prelude.{ℕ, ◌≡◌, ◌⊎◌, false, List, [], ◌++◌, codes, ⊤, Option, None, Some, Result, Ok, Err}
-use Rattle.std.specs.Prelude.{unwrap_or}
+use Rattle.std.specs.Prelude.{ℕ, ◌≡◌, ◌⊎◌, false, List, [], ◌++◌, codes, ⊤, Option, None, Some, Result, Ok, Err, unwrap_or}
 use Rattle.digest_kinds.specs.Bytes.{ByteString}
 use Rattle.sum_settings.specs.declared.stop.Stop.{Stop, TheVariants.Memory, TheVariants.Write}
 use Rattle.sum_lines.specs.sinks.Output.{OutputState, GivesAll}
 use Rattle.sum_sources.specs.sources.Source.{Pair}
-use Rattle.sum_engine.specs.{Behavior.single_step, Execution.Performs}
-use Rattle.sum_engine.specs.Streams.{BothOutputs, StreamsState, FailuresMatch}
-use Rattle.sum_words.specs.Arguments.{ArgumentsState, FitsArguments}
-use Rattle.sum_words.specs.{CommandLine.command_line, CommandLine.NeedsMemory, Tool.name_of, declared.tool.Tool.Tool}
+use Rattle.sum_engine.specs.{Behavior.single_step, Execution.Performs, Streams.BothOutputs, Streams.StreamsState, Streams.FailuresMatch}
+use Rattle.sum_words.specs.{Arguments.ArgumentsState, Arguments.FitsArguments, CommandLine.command_line, CommandLine.NeedsMemory, Tool.name_of, declared.tool.Tool.Tool}
 use Rattle.digests.specs.Meaning.{meaning, status_of}
 
 -- the line for an unknown or missing tool

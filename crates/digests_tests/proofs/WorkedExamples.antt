@@ -1,36 +1,24 @@
 -- Worked examples: the meaning of some command lines, computed. It has both texts, the names that are opened, and
 -- whether all is good.
-use Rattle.std.proofs.Common.{arith, ◌≡◌, ◌∙◌, ap, ℕ, ◌++◌, Bool, List, [], ◌∷◌, refl, codes, true, false}
-use Rattle.std.proofs.Common.{if◌then◌else◌, bytes_eq, Result, Ok, Err, IfOk, Some, sym, inl, inr}
+use Rattle.std.proofs.Common.{arith, ◌≡◌, ◌∙◌, ap, ℕ, ◌++◌, Bool, List, [], ◌∷◌, refl, codes, true, false, if◌then◌else◌, bytes_eq, Result, Ok, Err, IfOk, Some, sym, inl, inr}
 use Rattle.std.specs.{Fmt.digits, Path.rsplit_once, Prelude.⊤, Prelude.◌⊎◌}
 use Prim.Native.String.{String}
+use Rattle.blake2b_core.specs.Compression.{mix, round, work_vector, compress}
+use Rattle.sum_engine.{proofs.BehaviorLemmas.events_extend, specs.Behavior.World, specs.Behavior.answer_to, specs.Behavior.digest_or_fault, specs.Behavior.out_text, specs.Behavior.err_text}
+use Rattle.sum_engine.specs.{Behavior.asks, Execution.Agrees, Execution.PerformsSteps, Streams.StreamsState, ToolLines.name_fault_line, check.Report.out_by, check.Report.bad_line, check.Rules.rules_of, check.Rules.labels_of, check.Summary.end_text}
+use Rattle.sum_engine.specs.declared.check.judge.Verdict.{Verdict, TheVariants.Right, TheVariants.Wrong, TheVariants.Unread}
+use Rattle.sum_sources.specs.{sources.Source.AnswerValue, inputs.Input.Content, inputs.Input.limit, inputs.Input.empty_content, sources.WithStdin.answers_with, ManifestLines.raw_lines}
+use Rattle.sum_sources.specs.declared.fault.{Fault.Fault, Ending.TheVariants.Whole, Ending.TheVariants.Broken, Fault.TheVariants.NotFound, Fault.TheVariants.Other}
+use Rattle.digest_kinds.specs.{Bytes.ByteString, Kind.full_kind, declared.algo.Algo.Algo, declared.algo.Algo.TheVariants.Md5, declared.algo.Algos.Algos, declared.algo.Algos.TheVariants.One}
+use Rattle.hex.specs.Hex.{encode_with, decode_pairs}
+use Rattle.sum_lines.specs.{grammar.LineParts.plain_parts, grammar.LineParts.tagged_parts, grammar.ParsedLines.entry_of, writing.DigestLine.line}
+use Rattle.sum_words.specs.{declared.tool.Tool.Tool, declared.tool.Tool.TheVariants.Md5sum, declared.tool.Tool.TheVariants.B2sum, declared.tool.Tool.TheVariants.Anysum, messages.FaultLines.fault_lines, parsing.WordFault.unknown_long}
+use Rattle.digests.specs.{GenerationRuns.GenerationRun, Meaning.meaning, Meaning.status_of, Program.not_read_line, Program.CallPerforms, Program.CallRefuses}
+use Rattle.sum_words_tests.proofs.WorkedExamples.{words, words_on_literals}
+use Rattle.sum_settings.specs.declared.{settings.CheckSettings.CheckSettings, settings.Report.TheVariants.All, stop.Stop.Stop, style.Mode.Mode, style.Mode.TheVariants.Text}
 use Rattle.md5.specs.Md5.{block_words as md5_words, rounds as md5_rounds, compress as md5_compress}
 use Rattle.md5.specs.Md5.{hash_after as md5_after, digest_bytes as md5_bytes, md5}
-use Rattle.blake2b_core.specs.Compression.{mix, round, work_vector, compress}
 use Rattle.blake2b_core.specs.Digest.{hash_after as blake2b_after, blake2b}
-use Rattle.sum_engine.proofs.BehaviorLemmas.{events_extend}
-use Rattle.sum_engine.specs.Behavior.{World, answer_to, digest_or_fault, out_text, err_text, asks}
-use Rattle.sum_engine.specs.{Execution.Agrees, Execution.PerformsSteps, Streams.StreamsState, ToolLines.name_fault_line}
-use Rattle.sum_engine.specs.check.{Report.out_by, Report.bad_line, Rules.rules_of, Rules.labels_of, Summary.end_text}
-use Rattle.sum_engine.specs.declared.check.judge.Verdict.{Verdict}
-use Rattle.sum_engine.specs.declared.check.judge.Verdict.TheVariants.{Right, Wrong, Unread}
-use Rattle.sum_sources.specs.ManifestLines.{raw_lines}
-use Rattle.sum_sources.specs.declared.fault.Ending.TheVariants.{Whole, Broken}
-use Rattle.sum_sources.specs.declared.fault.Fault.{Fault, TheVariants.NotFound, TheVariants.Other}
-use Rattle.sum_sources.specs.inputs.Input.{Content, limit, empty_content}
-use Rattle.sum_sources.specs.sources.{Source.AnswerValue, WithStdin.answers_with}
-use Rattle.digest_kinds.specs.{Bytes.ByteString, Kind.full_kind}
-use Rattle.digest_kinds.specs.declared.algo.{Algo.Algo, Algo.TheVariants.Md5, Algos.Algos, Algos.TheVariants.One}
-use Rattle.hex.specs.Hex.{encode_with, decode_pairs}
-use Rattle.sum_lines.specs.grammar.LineParts.{plain_parts, tagged_parts}
-use Rattle.sum_lines.specs.{grammar.ParsedLines.entry_of, writing.DigestLine.line}
-use Rattle.sum_words.specs.declared.tool.Tool.{Tool, TheVariants.Md5sum, TheVariants.B2sum, TheVariants.Anysum}
-use Rattle.sum_words.specs.{messages.FaultLines.fault_lines, parsing.WordFault.unknown_long}
-use Rattle.digests.specs.{GenerationRuns.GenerationRun, Meaning.meaning, Meaning.status_of}
-use Rattle.digests.specs.Program.{not_read_line, CallPerforms, CallRefuses}
-use Rattle.sum_words_tests.proofs.WorkedExamples.{words, words_on_literals}
-use Rattle.sum_settings.specs.declared.settings.{CheckSettings.CheckSettings, Report.TheVariants.All}
-use Rattle.sum_settings.specs.declared.{stop.Stop.Stop, style.Mode.Mode, style.Mode.TheVariants.Text}
 
 -- what a worked example unfolds, so that its texts are computed
 unfoldable meaning_on_literals : ⊤

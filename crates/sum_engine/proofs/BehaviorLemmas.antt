@@ -1,16 +1,11 @@
 -- Runs, one after another, and what a run's steps come to.
-use Rattle.std.proofs.Common.{rules, ◌≡◌, ℕ, Bool, List, [], ◌∷◌, ◌++◌, Result, Ok, Err, refl, ap, sym, ◌∙◌, subst}
-use Rattle.std.proofs.Common.{append_assoc, append-nil, flat_map, filter_map, inl}
+use Rattle.std.proofs.Common.{rules, ◌≡◌, ℕ, Bool, List, [], ◌∷◌, ◌++◌, Result, Ok, Err, refl, ap, sym, ◌∙◌, subst, append_assoc, append-nil, flat_map, filter_map, inl}
 use Rattle.std.proofs.lemmas.{Grind.flat_map-append, List.Elements.filter_map-append}
 use Rattle.sum_lines.{proofs.EventLemmas.output_events-bytes, specs.sinks.Output.written_byte}
 use Rattle.sum_settings.specs.declared.stop.Stop.{Stop, TheVariants.Memory, TheVariants.Write}
-use Rattle.sum_engine.proofs.ExecutionLemmas.{step_performed, filter_map-kind, filter_map-other_kind, Happened-then}
-use Rattle.sum_engine.proofs.ExecutionLemmas.{refused_first}
-use Rattle.sum_engine.specs.Behavior.{World, Step, Behavior, trace, events_of, single_step}
-use Rattle.sum_engine.specs.Execution.{opened_name, err_event, out_event, AsksNames, Agrees, world_at, Happened}
-use Rattle.sum_engine.specs.Execution.{streams_with_refusals, PerformsSteps, Performs, RefusesMemory}
-use Rattle.sum_engine.specs.{Laws.EventsExtend, Streams.StreamsState, Streams.WritesAndReturns}
-use Rattle.sum_engine.specs.check.Checker.{behavior_from}
+use Rattle.sum_engine.specs.Execution.{opened_name, err_event, out_event, AsksNames, Agrees, world_at, Happened, streams_with_refusals, PerformsSteps, Performs, RefusesMemory}
+use Rattle.sum_engine.specs.{Laws.EventsExtend, check.Checker.behavior_from, Streams.StreamsState, Streams.WritesAndReturns, Behavior.World, Behavior.Step, Behavior.Behavior, Behavior.trace, Behavior.events_of, Behavior.single_step}
+use Rattle.sum_engine.proofs.ExecutionLemmas.{step_performed, filter_map-kind, filter_map-other_kind, Happened-then, refused_first}
 
 -- ---- a behavior after a step, and one behavior after another
 

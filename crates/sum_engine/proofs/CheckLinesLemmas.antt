@@ -1,24 +1,15 @@
 -- `check_lines`: a new checker runs to its end. What happened so far and what remains is the whole behavior
 -- (`HasComeTo`). A step that goes on keeps this. The step that ends or stops proves the contract by it.
-use Rattle.std.proofs.Common.{rules, ◌-◌, ◌+◌, ◌≤◌, ◌≡◌, ℕ, length, drop, length-drop, Bool, List, [], ◌∷◌, ◌++◌}
-use Rattle.std.proofs.Common.{Result, Ok, Err, None, true, refl, ap, ◌∙◌, subst, arith, append-nil}
+use Rattle.std.proofs.Common.{rules, ◌-◌, ◌+◌, ◌≤◌, ◌≡◌, ℕ, length, drop, length-drop, Bool, List, [], ◌∷◌, ◌++◌, Result, Ok, Err, None, true, refl, ap, ◌∙◌, subst, arith, append-nil}
 use Rattle.std.specs.Prelude.{IfErr}
 use Rattle.sum_sources.specs.{LineReader.remaining_content, declared.inputs.input.Phase.TheVariants.Unfinished}
 use Rattle.sum_sources.specs.inputs.Input.{IsSameInput, Fits, reads_past, Reads, Content, InputState, clip}
-use Rattle.sum_engine.proofs.BehaviorLemmas.{HasDoneUpTo, done_more, done_stops}
-use Rattle.sum_engine.proofs.{CountLemmas.counts_then-none, ExecutionLemmas.Happened-none}
-use Rattle.sum_engine.proofs.ReadAheadLemmas.{read_fits_clip, stops_at_step}
-use Rattle.sum_engine.proofs.WorldLemmas.{agrees_before, reads_none, reads_then}
-use Rattle.sum_engine.specs.Behavior.{World, Step, Behavior}
-use Rattle.sum_engine.specs.Execution.{Agrees, ReadsToEndIf, world_at, PerformsSteps}
-use Rattle.sum_engine.specs.Streams.{StreamsState, StopHasCause, none_or_one}
-use Rattle.sum_engine.specs.check.CheckOne.{content_behavior, StopsAtStep, line_steps}
-use Rattle.sum_engine.specs.check.Checker.{remaining_behavior, Progress, Going, Ended, IsStep, TakesStep, behavior_from}
-use Rattle.sum_engine.specs.check.Checker.{progress_before, CheckerValue, end_result}
-use Rattle.sum_engine.specs.check.Counts.{Counts, counts_of, good}
-use Rattle.sum_engine.specs.check.{Judge.all_verdicts, Rules.LabelsValue, Rules.CheckRules, Summary.end_text}
-use Rattle.sum_engine.specs.check.Verdicts.{CheckState, initial_state, IsAtStart, VerdictsValue, state_at}
-use Rattle.sum_engine.specs.{check.Verdicts.HoldsInEachCheck, private.CheckOne.RunsManifest}
+use Rattle.sum_engine.specs.check.Checker.{remaining_behavior, Progress, Going, Ended, IsStep, TakesStep, behavior_from, progress_before, CheckerValue, end_result}
+use Rattle.sum_engine.specs.check.{Verdicts.CheckState, Verdicts.initial_state, Verdicts.IsAtStart, Verdicts.VerdictsValue, Verdicts.state_at, Verdicts.HoldsInEachCheck, Summary.end_text, Rules.LabelsValue, Rules.CheckRules}
+use Rattle.sum_engine.specs.{Streams.StreamsState, Streams.StopHasCause, Streams.none_or_one, Execution.Agrees, Execution.ReadsToEndIf, Execution.world_at, Execution.PerformsSteps, private.CheckOne.RunsManifest}
+use Rattle.sum_engine.proofs.{WorldLemmas.agrees_before, WorldLemmas.reads_none, WorldLemmas.reads_then, CountLemmas.counts_then-none, ReadAheadLemmas.read_fits_clip, ReadAheadLemmas.stops_at_step, ExecutionLemmas.Happened-none}
+use Rattle.sum_engine.{proofs.BehaviorLemmas.HasDoneUpTo, proofs.BehaviorLemmas.done_more, proofs.BehaviorLemmas.done_stops, specs.check.Counts.Counts}
+use Rattle.sum_engine.specs.{check.Counts.counts_of, check.Counts.good, check.CheckOne.content_behavior, check.CheckOne.StopsAtStep, check.CheckOne.line_steps, check.Judge.all_verdicts, Behavior.World, Behavior.Step, Behavior.Behavior}
 use Rattle.sum_settings.specs.declared.stop.Stop.{Stop}
 
 -- ---- before the first step

@@ -1,25 +1,15 @@
 -- `check_one`: a manifest is opened, its checker runs to its end, and it is closed.
-use Rattle.std.proofs.Common.{rules, ◌≡◌, ℕ, Bool, false, List, [], ◌∷◌, Result, Ok, Err, None, Some, refl, ap, subst}
-use Rattle.std.proofs.Common.{codes, if◌then◌else◌, arith}
+use Rattle.std.proofs.Common.{rules, ◌≡◌, ℕ, Bool, false, List, [], ◌∷◌, Result, Ok, Err, None, Some, refl, ap, subst, codes, if◌then◌else◌, arith}
 use Rattle.std.{proofs.lemmas.Option.slice_get_past, specs.Prelude.IfErr}
-use Rattle.sum_sources.{proofs.GaveLemmas.gave-times, specs.declared.fault.Fault.Fault}
-use Rattle.sum_sources.specs.inputs.Input.{empty_reads, Content, InputState, Fits, clip}
-use Rattle.sum_sources.specs.sources.Source.{state_with_opening, results_of, result_at, times, AnswerValue, SourceState}
-use Rattle.sum_sources.specs.sources.WithStdin.{is_dash}
+use Rattle.sum_sources.{proofs.GaveLemmas.gave-times, specs.declared.fault.Fault.Fault, specs.inputs.Input.empty_reads, specs.inputs.Input.Content, specs.inputs.Input.InputState, specs.inputs.Input.Fits, specs.inputs.Input.clip}
+use Rattle.sum_sources.specs.sources.{Source.state_with_opening, Source.results_of, Source.result_at, Source.times, Source.AnswerValue, Source.SourceState, WithStdin.is_dash}
 use Rattle.sum_lines.proofs.EventLemmas.{Gets-none}
-use Rattle.sum_engine.proofs.BehaviorLemmas.{behind_step, Performs-step, Performs-refused}
-use Rattle.sum_engine.proofs.CheckLinesLemmas.{manifest_behavior}
-use Rattle.sum_engine.proofs.ExecutionLemmas.{Happened-by, Happened-then, kept_performs}
-use Rattle.sum_engine.proofs.OpenedNameLemmas.{WasOpened, fault_answer}
-use Rattle.sum_engine.proofs.WorldLemmas.{asks_one, world_at_after}
+use Rattle.sum_engine.proofs.{BehaviorLemmas.behind_step, BehaviorLemmas.Performs-step, BehaviorLemmas.Performs-refused, CheckLinesLemmas.manifest_behavior}
+use Rattle.sum_engine.proofs.{ExecutionLemmas.Happened-by, ExecutionLemmas.Happened-then, ExecutionLemmas.kept_performs, OpenedNameLemmas.WasOpened, OpenedNameLemmas.fault_answer, WorldLemmas.asks_one, WorldLemmas.world_at_after}
 use Rattle.sum_engine.specs.Behavior.{World, answer_to, world_after, Behavior, Step, events_of, trace}
-use Rattle.sum_engine.specs.Execution.{opened_names, world_at, Happened, Performs, RefusesMemory}
-use Rattle.sum_engine.specs.Streams.{BothOutputs, StreamsState, WritesAndReturns}
-use Rattle.sum_engine.specs.ToolLines.{name_fault_line}
-use Rattle.sum_engine.specs.check.CheckOne.{check_behavior_by, check_behavior, StopsAtStep, StopsAtLine}
-use Rattle.sum_engine.specs.{check.Rules.rules_of, check.Rules.labels_of, private.CheckOne.RunsManifest}
-use Rattle.sum_settings.specs.declared.settings.CheckSettings.{CheckSettings}
-use Rattle.sum_settings.specs.declared.stop.Stop.{Stop, TheVariants.Memory}
+use Rattle.sum_engine.specs.{Execution.opened_names, Execution.world_at, Execution.Happened, Execution.Performs, Execution.RefusesMemory, Streams.BothOutputs, Streams.StreamsState, Streams.WritesAndReturns, ToolLines.name_fault_line}
+use Rattle.sum_engine.specs.{check.CheckOne.check_behavior_by, check.CheckOne.check_behavior, check.CheckOne.StopsAtStep, check.CheckOne.StopsAtLine, check.Rules.rules_of, check.Rules.labels_of, private.CheckOne.RunsManifest}
+use Rattle.sum_settings.specs.declared.{settings.CheckSettings.CheckSettings, stop.Stop.Stop, stop.Stop.TheVariants.Memory}
 
 -- the step that opens a manifest of that name
 abbrev pub opening : List ℕ → Step

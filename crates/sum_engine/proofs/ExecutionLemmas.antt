@@ -1,15 +1,10 @@
 -- What happened from one state to another, one event after another.
-use Rattle.std.proofs.Common.{rules, arith, ◌≡◌, ◌<◌, ◌+◌, ℕ, List, [], ◌∷◌, ◌++◌, map, Option, None, Some, Result, Ok}
-use Rattle.std.proofs.Common.{Err, refl, inl, inr, append_assoc, append-nil, filter_map}
-use Rattle.std.proofs.lemmas.List.{map-append, Elements.filter_map-append}
-use Rattle.std.specs.Prelude.{◌⊎◌, Any}
-use Rattle.sum_lines.proofs.EventLemmas.{Gets-none, Gets-then}
-use Rattle.sum_lines.specs.sinks.Output.{Gets, OutputEvent, output_events}
+use Rattle.std.proofs.Common.{rules, arith, ◌≡◌, ◌<◌, ◌+◌, ℕ, List, [], ◌∷◌, ◌++◌, map, Option, None, Some, Result, Ok, Err, refl, inl, inr, append_assoc, append-nil, filter_map}
+use Rattle.std.{proofs.lemmas.List.map-append, proofs.lemmas.List.Elements.filter_map-append, specs.Prelude.◌⊎◌, specs.Prelude.Any}
+use Rattle.sum_lines.{proofs.EventLemmas.Gets-none, proofs.EventLemmas.Gets-then, specs.sinks.Output.Gets, specs.sinks.Output.OutputEvent, specs.sinks.Output.output_events}
+use Rattle.sum_engine.specs.Execution.{RefusesMemory, opened_names, AsksNames, Happened, RunsOutOfMemory, streams_with_refusals, PerformsSteps}
+use Rattle.sum_engine.specs.{Behavior.Event, Behavior.Step, Behavior.open_name, Behavior.to_err, Behavior.to_out, Streams.WritesBoth, Streams.WritesAndReturns, Streams.StreamsState, Streams.none_or_one}
 use Rattle.sum_engine.proofs.WorldLemmas.{asks_none, asks_then}
-use Rattle.sum_engine.specs.Behavior.{Event, Step, open_name, to_err, to_out}
-use Rattle.sum_engine.specs.Execution.{RefusesMemory, opened_names, AsksNames, Happened, RunsOutOfMemory}
-use Rattle.sum_engine.specs.Execution.{streams_with_refusals, PerformsSteps}
-use Rattle.sum_engine.specs.Streams.{WritesBoth, WritesAndReturns, StreamsState, none_or_one}
 use Rattle.sum_sources.specs.sources.Source.{SourceState}
 use Rattle.sum_settings.specs.declared.stop.Stop.{Stop, TheVariants.Memory, TheVariants.Write}
 

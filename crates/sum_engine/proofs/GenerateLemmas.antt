@@ -1,12 +1,9 @@
 -- `generate_one`: the behavior of hashing one name, by what `hash_file` gave and what was then written.
 use Rattle.std.proofs.Common.{arith, rules, ◌≡◌, ℕ, List, [], ◌∷◌, Result, Ok, Err, refl}
 use Rattle.digest_kinds.specs.Kind.{KindValue}
-use Rattle.sum_sources.specs.declared.{fault.Fault.Fault, sources.hash_file.HashFault.HashFault}
-use Rattle.sum_sources.specs.{declared.sources.hash_file.HashFault.TheVariants.Open, sources.Source.SourceState}
+use Rattle.sum_sources.specs.{declared.fault.Fault.Fault, declared.sources.hash_file.HashFault.HashFault, declared.sources.hash_file.HashFault.TheVariants.Open, sources.Source.SourceState}
 use Rattle.sum_engine.proofs.HashLemmas.{HashesName}
-use Rattle.sum_engine.specs.Behavior.{digest_or_fault, Step, World, answer_to}
-use Rattle.sum_engine.specs.Execution.{RefusesMemory, AsksNames, Agrees, world_at}
-use Rattle.sum_engine.specs.{Generate.generate_behavior_by, private.Generate.fault_in}
+use Rattle.sum_engine.specs.{Behavior.digest_or_fault, Behavior.Step, Behavior.World, Behavior.answer_to, Execution.RefusesMemory, Execution.AsksNames, Execution.Agrees, Execution.world_at, Generate.generate_behavior_by, private.Generate.fault_in}
 use Rattle.sum_settings.specs.declared.{settings.Settings.Settings, stop.NoRoom.NoRoom}
 use Rattle.sum_sources.specs.declared.sources.source.OpenFault.TheVariants as faults
 

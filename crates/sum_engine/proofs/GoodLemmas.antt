@@ -1,24 +1,14 @@
 -- A manifest of lines that were written for whole files is good: by induction on its lines.
-use Rattle.std.proofs.Common.{rules, ◌≡◌, ℕ, suc, ◌+◌, ◌<◌, true, false, List, [], ◌∷◌, ◌++◌, length, map, refl, ap}
-use Rattle.std.proofs.Common.{◌∙◌, append_assoc, arith, inl, append-nil, flat_map, All, Ok}
-use Rattle.std.proofs.Math.Bool.{and-false, or-true}
-use Rattle.std.proofs.lemmas.{Bool.ne_eqb, List.Elements.All-head, List.Elements.All-tail, Slice.Eq.bytes_eq-Decides}
-use Rattle.sum_engine.proofs.{CheckOneLemmas.opening, ListedEntryLemmas.Item, ListedEntryLemmas.written_text}
-use Rattle.sum_engine.proofs.ListedEntryLemmas.{Listed, prefix, spelled_for, ReadableSoFar, back, whole, lines-are}
-use Rattle.sum_engine.specs.Behavior.{World, answer_to, world_after, Behavior, out_text, err_text}
-use Rattle.sum_engine.specs.check.CheckOne.{line_steps, content_behavior, check_behavior_by, check_behavior}
-use Rattle.sum_engine.specs.check.{Checker.behavior_from, Counts.Counts, Counts.counts_of, Counts.good}
-use Rattle.sum_engine.specs.check.Judge.{Right, LineVerdictValue, judge, line_verdict, verdicts, all_verdicts}
-use Rattle.sum_engine.specs.check.{Report.out_by, Report.out_of, Report.err_of, Rules.LabelsValue, Rules.rules_of}
-use Rattle.sum_engine.specs.check.{Rules.labels_of, Rules.CheckRules, Summary.end_text}
+use Rattle.std.proofs.Common.{rules, ◌≡◌, ℕ, suc, ◌+◌, ◌<◌, true, false, List, [], ◌∷◌, ◌++◌, length, map, refl, ap, ◌∙◌, append_assoc, arith, inl, append-nil, flat_map, All, Ok}
+use Rattle.std.proofs.{Math.Bool.and-false, Math.Bool.or-true, lemmas.Bool.ne_eqb, lemmas.List.Elements.All-head, lemmas.List.Elements.All-tail, lemmas.Slice.Eq.bytes_eq-Decides}
+use Rattle.sum_engine.specs.check.{CheckOne.line_steps, CheckOne.content_behavior, CheckOne.check_behavior_by, CheckOne.check_behavior, Rules.LabelsValue, Rules.rules_of, Rules.labels_of, Rules.CheckRules, Summary.end_text, Checker.behavior_from}
+use Rattle.sum_engine.{specs.Behavior.World, specs.Behavior.answer_to, specs.Behavior.world_after, specs.Behavior.Behavior, specs.Behavior.out_text, specs.Behavior.err_text, proofs.CheckOneLemmas.opening}
+use Rattle.sum_engine.specs.check.{Judge.Right, Judge.LineVerdictValue, Judge.judge, Judge.line_verdict, Judge.verdicts, Judge.all_verdicts, Report.out_by, Report.out_of, Report.err_of, Counts.Counts, Counts.counts_of, Counts.good}
+use Rattle.sum_engine.proofs.ListedEntryLemmas.{Item, written_text, Listed, prefix, spelled_for, ReadableSoFar, back, whole, lines-are}
 use Rattle.digest_kinds.specs.declared.algo.Algos.{Algos}
-use Rattle.sum_lines.proofs.ParsedLineLemmas.{parse_is_grammar}
-use Rattle.sum_lines.specs.{Escape.escape, declared.reading.read_line.Form.Form}
-use Rattle.sum_lines.specs.grammar.{Entries.IsEntry, Form.form, ParsedLines.parse_line}
+use Rattle.sum_lines.{proofs.ParsedLineLemmas.parse_is_grammar, specs.Escape.escape, specs.declared.reading.read_line.Form.Form, specs.grammar.Entries.IsEntry, specs.grammar.Form.form, specs.grammar.ParsedLines.parse_line}
 use Rattle.sum_sources.proofs.ContentLemmas.{limit-value, clip-short}
-use Rattle.sum_sources.specs.{ManifestLines.past_line, declared.fault.Ending.TheVariants.Whole}
-use Rattle.sum_sources.specs.inputs.Input.{Content, limit}
-use Rattle.sum_sources.specs.sources.{Source.AnswerValue, Source.times, WithStdin.is_dash}
+use Rattle.sum_sources.specs.{ManifestLines.past_line, declared.fault.Ending.TheVariants.Whole, inputs.Input.Content, inputs.Input.limit, sources.Source.AnswerValue, sources.Source.times, sources.WithStdin.is_dash}
 use Rattle.sum_settings.specs.declared.settings.{CheckSettings.CheckSettings, Report.Report}
 
 -- ---- each verdict is Right

@@ -1,11 +1,9 @@
 -- `Inputs::hash_file`: a name is hashed, and in each world that agrees with what was read this is of its answer.
 use Rattle.std.proofs.Common.{rules, refl, ◌≡◌, ◌≢◌, [], ◌∷◌, ℕ, List, Result, Ok, Err}
 use Rattle.digest_kinds.specs.Kind.{KindValue}
-use Rattle.sum_sources.specs.declared.{fault.Fault.Fault, sources.hash_file.HashFault.HashFault}
-use Rattle.sum_sources.specs.sources.{HashFile.HashesFile, Source.AnswerValue, Source.SourceState}
+use Rattle.sum_sources.specs.{declared.fault.Fault.Fault, declared.sources.hash_file.HashFault.HashFault, sources.HashFile.HashesFile, sources.Source.AnswerValue, sources.Source.SourceState}
 use Rattle.sum_engine.proofs.WorldLemmas.{opening_agrees, asks_one, reads_one}
-use Rattle.sum_engine.specs.Behavior.{World, answer_to, digest_or_fault}
-use Rattle.sum_engine.specs.Execution.{Agrees, world_at, AsksNames, ReadsToEndIf, RefusesMemory}
+use Rattle.sum_engine.specs.{Behavior.World, Behavior.answer_to, Behavior.digest_or_fault, Execution.Agrees, Execution.world_at, Execution.AsksNames, Execution.ReadsToEndIf, Execution.RefusesMemory}
 use Rattle.sum_sources.specs.declared.sources.hash_file.HashFault.TheVariants as hashing
 use Rattle.sum_sources.specs.declared.sources.source.OpenFault.TheVariants as faults
 

@@ -1,20 +1,12 @@
 -- `steps_join`: the steps of a new checker, one after another, by induction on the list of their vectors.
-use Rattle.std.proofs.Common.{rules, ◌≡◌, ℕ, zero, suc, ◌+◌, ◌-◌, ◌≤◌, List, [], ◌∷◌, ◌++◌, Ok, length, take, drop}
-use Rattle.std.proofs.Common.{refl, ap, sym, ◌∙◌, arith, length-drop, slice_index_or, map}
+use Rattle.std.proofs.Common.{rules, ◌≡◌, ℕ, zero, suc, ◌+◌, ◌-◌, ◌≤◌, List, [], ◌∷◌, ◌++◌, Ok, length, take, drop, refl, ap, sym, ◌∙◌, arith, length-drop, slice_index_or, map}
 use Rattle.std.proofs.lemmas.List.{take-append-drop}
-use Rattle.sum_engine.proofs.BehaviorLemmas.{HasDoneUpTo, behavior_then-happened}
-use Rattle.sum_engine.proofs.CheckLinesLemmas.{remaining-initial, none_left, done_last}
-use Rattle.sum_engine.proofs.{ExecutionLemmas.Happened-none, RemainingLemmas.past_next}
-use Rattle.sum_engine.specs.Behavior.{World, Behavior, trace}
-use Rattle.sum_engine.specs.{Execution.Happened, Laws.TakesSteps, Laws.StepsJoin, Streams.StreamsState}
-use Rattle.sum_engine.specs.check.CheckOne.{line_steps, content_behavior}
+use Rattle.sum_engine.proofs.{BehaviorLemmas.HasDoneUpTo, BehaviorLemmas.behavior_then-happened, CheckLinesLemmas.remaining-initial, CheckLinesLemmas.none_left, CheckLinesLemmas.done_last, ExecutionLemmas.Happened-none, RemainingLemmas.past_next}
+use Rattle.sum_engine.specs.{Behavior.World, Behavior.Behavior, Behavior.trace, Execution.Happened, Laws.TakesSteps, Laws.StepsJoin, Streams.StreamsState, check.CheckOne.line_steps, check.CheckOne.content_behavior}
 use Rattle.sum_engine.specs.check.Checker.{remaining_behavior, Going, IsStep, behavior_from}
-use Rattle.sum_engine.specs.check.{Counts.counts_of, Judge.LineVerdictValue, Judge.verdicts, Judge.all_verdicts}
-use Rattle.sum_engine.specs.check.{Rules.LabelsValue, Rules.CheckRules, Summary.end_text}
-use Rattle.sum_engine.specs.check.Verdicts.{CheckState, initial_state}
+use Rattle.sum_engine.specs.check.{Counts.counts_of, Judge.LineVerdictValue, Judge.verdicts, Judge.all_verdicts, Rules.LabelsValue, Rules.CheckRules, Summary.end_text, Verdicts.CheckState, Verdicts.initial_state}
 use Rattle.sum_lines.specs.{declared.reading.read_line.Form.Form, grammar.Form.form, grammar.ParsedLines.parse_line}
-use Rattle.sum_sources.specs.ManifestLines.{past_line, content_past_lines, lines}
-use Rattle.sum_sources.specs.inputs.Input.{Content}
+use Rattle.sum_sources.specs.{ManifestLines.past_line, ManifestLines.content_past_lines, ManifestLines.lines, inputs.Input.Content}
 
 -- ---- as many steps as lines, and one more
 

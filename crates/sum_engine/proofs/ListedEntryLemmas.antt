@@ -1,20 +1,13 @@
 -- A manifest of lines that were written for whole files: each line is read back.
-use Rattle.std.proofs.Common.{rules, ◌≡◌, ◌≢◌, ℕ, ◌<◌, false, List, [], ◌∷◌, ◌++◌, length, map, refl, ap, sym, ◌∙◌}
-use Rattle.std.proofs.Common.{subst, ◌⊎◌, inl, IsTrue, flat_map, All, Ok}
-use Rattle.std.proofs.lemmas.{Bool.ne_eqb, List.append-nil, List.append_cancel_right}
-use Rattle.std.proofs.lemmas.List.Elements.{All-nil, All-map, All-weaker}
+use Rattle.std.proofs.Common.{rules, ◌≡◌, ◌≢◌, ℕ, ◌<◌, false, List, [], ◌∷◌, ◌++◌, length, map, refl, ap, sym, ◌∙◌, subst, ◌⊎◌, inl, IsTrue, flat_map, All, Ok}
+use Rattle.std.proofs.lemmas.{Bool.ne_eqb, List.append-nil, List.append_cancel_right, List.Elements.All-nil, List.Elements.All-map, List.Elements.All-weaker}
 use Rattle.std.specs.{Char.is_newline, Str.Lines.strip_carriage_return}
-use Rattle.digest_kinds.proofs.DigestLemmas.{length-digest, IsBytes-digest}
-use Rattle.digest_kinds.specs.{Algo.has_len, Kind.KindValue, Kind.digest, declared.algo.Algos.Algos}
-use Rattle.sum_lines.{proofs.PutLineLemmas.prefix_of, proofs.PutLineLemmas.read_back, specs.Escape.escape}
-use Rattle.sum_lines.specs.declared.reading.read_line.Form.TheVariants.{Undecided, Standard}
-use Rattle.sum_lines.specs.grammar.{Entries.EntryValue, Entries.IsEntry, Form.form, LineLaws.AllowsMode}
-use Rattle.sum_lines.specs.writing.DigestLine.{line}
+use Rattle.digest_kinds.{proofs.DigestLemmas.length-digest, proofs.DigestLemmas.IsBytes-digest, specs.Algo.has_len, specs.Kind.KindValue, specs.Kind.digest, specs.declared.algo.Algos.Algos}
+use Rattle.sum_lines.{proofs.PutLineLemmas.prefix_of, proofs.PutLineLemmas.read_back, specs.declared.reading.read_line.Form.TheVariants.Undecided}
+use Rattle.sum_lines.specs.{declared.reading.read_line.Form.TheVariants.Standard, grammar.Entries.EntryValue, grammar.Entries.IsEntry, Escape.escape, grammar.Form.form, grammar.LineLaws.AllowsMode, writing.DigestLine.line}
 use Rattle.sum_settings.specs.declared.style.Mode.{Mode}
 use Rattle.sum_sources.proofs.CutLemmas.{raw_lines-joined}
-use Rattle.sum_sources.specs.ManifestLines.{HasNoNewline, lines, raw_lines}
-use Rattle.sum_sources.specs.{declared.fault.Ending.TheVariants.Whole, inputs.Input.Content, inputs.Input.limit}
-use Rattle.sum_sources.specs.sources.{Source.AnswerValue, WithStdin.is_dash}
+use Rattle.sum_sources.specs.{ManifestLines.HasNoNewline, ManifestLines.lines, ManifestLines.raw_lines, declared.fault.Ending.TheVariants.Whole, inputs.Input.Content, inputs.Input.limit, sources.Source.AnswerValue, sources.WithStdin.is_dash}
 use Rattle.sum_engine.{proofs.CarriageReturnLemmas.strips-kept, specs.OldVerdicts.HasNoCarriageReturn}
 
 -- ---- what is written

@@ -1,19 +1,11 @@
 -- `Verdicts::next`: the next verdict of a manifest, by what reading and judging its line did.
-use Rattle.std.proofs.Common.{rules, ◌≡◌, ◌∙◌, ℕ, ◌+◌, List, Ok, Err, Result, IfOk, Some, refl, ap, sym, arith, length}
-use Rattle.std.proofs.Common.{length-drop, ◌≤◌}
-use Rattle.sum_sources.proofs.LineLemmas.{line-some}
-use Rattle.sum_sources.specs.LineReader.{AdvancesLines, IsBounded, IsReading, ReadsOn, consumed_count, reads_of}
-use Rattle.sum_sources.specs.{LineReader.remaining_content, ManifestLines.past_line}
-use Rattle.sum_sources.specs.declared.line_reader.{LineReader.LineReader, LineStop.LineStop, LineStop.TheVariants.Fault}
-use Rattle.sum_sources.specs.declared.line_reader.{LineStop.TheVariants.Memory, Next.TheVariants.Line}
-use Rattle.sum_sources.specs.inputs.Input.{Fits, Content, InputState}
-use Rattle.sum_sources.specs.sources.Source.{SourceState}
-use Rattle.sum_engine.proofs.{RemainingLemmas.remaining_next, WorldLemmas.world_at_after}
-use Rattle.sum_engine.specs.{Behavior.World, Execution.Agrees, Execution.world_at}
-use Rattle.sum_engine.specs.check.{Judge.line_verdict, Judge.LineVerdict, Judge.line_verdict_value, Rules.CheckRules}
-use Rattle.sum_engine.specs.check.Verdicts.{CheckState, HandlesLine, next_judged, HoldsInEachCheck, IsNextVerdict}
-use Rattle.sum_engine.specs.check.Verdicts.{AsksFor, VerdictsValue, counts_after, state_at}
-use Rattle.sum_engine.specs.private.Verdicts.{TakesLine, parsed_at, found_verdict}
+use Rattle.std.proofs.Common.{rules, ◌≡◌, ◌∙◌, ℕ, ◌+◌, List, Ok, Err, Result, IfOk, Some, refl, ap, sym, arith, length, length-drop, ◌≤◌}
+use Rattle.sum_sources.{specs.inputs.Input.Fits, specs.inputs.Input.Content, specs.inputs.Input.InputState, specs.ManifestLines.past_line, proofs.LineLemmas.line-some, specs.sources.Source.SourceState}
+use Rattle.sum_sources.specs.declared.line_reader.{LineStop.TheVariants.Fault, LineStop.TheVariants.Memory, LineStop.LineStop, LineReader.LineReader, Next.TheVariants.Line}
+use Rattle.sum_sources.specs.LineReader.{AdvancesLines, IsBounded, IsReading, ReadsOn, consumed_count, reads_of, remaining_content}
+use Rattle.sum_engine.specs.check.Verdicts.{CheckState, HandlesLine, next_judged, HoldsInEachCheck, IsNextVerdict, AsksFor, VerdictsValue, counts_after, state_at}
+use Rattle.sum_engine.specs.{check.Judge.line_verdict, check.Judge.LineVerdict, check.Judge.line_verdict_value, Behavior.World, check.Rules.CheckRules, Execution.Agrees, Execution.world_at, private.Verdicts.TakesLine, private.Verdicts.parsed_at}
+use Rattle.sum_engine.{specs.private.Verdicts.found_verdict, proofs.WorldLemmas.world_at_after, proofs.RemainingLemmas.remaining_next}
 use Rattle.sum_lines.specs.grammar.Form.{form_then, line_form}
 use Rattle.sum_settings.specs.declared.stop.NoRoom.{NoRoom}
 

@@ -1,18 +1,12 @@
 -- A line without a carriage return, neither as a byte nor in its name, says now what it said to older versions.
-use Rattle.std.proofs.Common.{rules, arith, ◌≡◌, ◌≢◌, ◌<◌, ◌==◌, ℕ, Bool, List, [], ◌∷◌, ◌++◌, length, refl, sym, inl}
-use Rattle.std.proofs.Common.{inr, subst, codes, append_assoc, if◌then◌else◌}
-use Rattle.std.proofs.lemmas.{Bool.Decides.nat_tests, List.take_at, List.drop_at}
+use Rattle.std.proofs.Common.{rules, arith, ◌≡◌, ◌≢◌, ◌<◌, ◌==◌, ℕ, Bool, List, [], ◌∷◌, ◌++◌, length, refl, sym, inl, inr, subst, codes, append_assoc, if◌then◌else◌}
 use Rattle.std.proofs.lemmas.List.Elements.{All-nil, All-cons, All-head, All-tail, All-take, All-drop}
-use Rattle.std.specs.List.{starts_with}
+use Rattle.std.{proofs.lemmas.List.take_at, proofs.lemmas.List.drop_at, proofs.lemmas.Bool.Decides.nat_tests, specs.List.starts_with}
 use Rattle.digest_kinds.specs.{Algo.tag, Kind.KindValue, declared.algo.Algos.Algos}
-use Rattle.sum_lines.proofs.{EntryLemmas.entry_by, ParsedLineLemmas.parse_is_grammar}
-use Rattle.sum_lines.specs.{Escape.escape, declared.reading.read_line.Form.Form}
+use Rattle.sum_lines.{proofs.EntryLemmas.entry_by, proofs.ParsedLineLemmas.parse_is_grammar, specs.Escape.escape, specs.declared.reading.read_line.Form.Form, specs.grammar.Entries.EntryValue}
+use Rattle.sum_lines.specs.grammar.{Entries.is_ignored, Entries.IsRawName, Entries.IsEntry, ParsedLines.ParsedLine, ParsedLines.ignored, ParsedLines.bad, ParsedLines.entry, ParsedLines.parse_line, Shapes.IsPlain, Shapes.IsTagged, Shapes.mark}
 use Rattle.sum_lines.specs.declared.reading.read_line.Form.TheVariants.{Undecided, Standard, Reversed}
-use Rattle.sum_lines.specs.grammar.Entries.{EntryValue, is_ignored, IsRawName, IsEntry}
-use Rattle.sum_lines.specs.grammar.ParsedLines.{ParsedLine, ignored, bad, entry, parse_line}
-use Rattle.sum_lines.specs.grammar.Shapes.{IsPlain, IsTagged, mark}
-use Rattle.sum_engine.proofs.CarriageReturnLemmas.{IsNoCarriageReturn}
-use Rattle.sum_engine.specs.OldVerdicts.{older_escape, SaidOnce, HasNoCarriageReturn, NamesNoCarriageReturn}
+use Rattle.sum_engine.{proofs.CarriageReturnLemmas.IsNoCarriageReturn, specs.OldVerdicts.older_escape, specs.OldVerdicts.SaidOnce, specs.OldVerdicts.HasNoCarriageReturn, specs.OldVerdicts.NamesNoCarriageReturn}
 
 -- ---- bytes without a carriage return
 

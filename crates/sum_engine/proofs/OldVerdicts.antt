@@ -1,20 +1,13 @@
 -- `old_verdicts`: a manifest of the time of older versions says now what it said to them.
-use Rattle.std.proofs.Common.{rules, ◌≡◌, ◌∙◌, ℕ, ◌+◌, ◌<◌, List, [], ◌∷◌, ◌++◌, length, refl, ap, sym, subst}
-use Rattle.std.proofs.Common.{append_assoc, flat_map, All, map, ◌↔◌}
+use Rattle.std.proofs.Common.{rules, ◌≡◌, ◌∙◌, ℕ, ◌+◌, ◌<◌, List, [], ◌∷◌, ◌++◌, length, refl, ap, sym, subst, append_assoc, flat_map, All, map, ◌↔◌}
 use Rattle.std.proofs.lemmas.List.Elements.{All-nil, All-cons, All-head, All-tail, All-weaker}
 use Rattle.digest_kinds.specs.declared.algo.Algos.{Algos}
-use Rattle.sum_lines.proofs.EntryLemmas.{entry-not_ignored}
-use Rattle.sum_lines.specs.{Escape.escape, declared.reading.read_line.Form.Form, grammar.Form.form}
+use Rattle.sum_lines.{proofs.EntryLemmas.entry-not_ignored, specs.Escape.escape, specs.declared.reading.read_line.Form.Form, specs.grammar.Form.form}
 use Rattle.sum_lines.specs.grammar.ParsedLines.{ParsedLine, ignored, bad, entry, parse_line}
-use Rattle.sum_sources.proofs.CutLemmas.{bytes_of_lines, cut, raw_lines-joined}
-use Rattle.sum_sources.specs.{ManifestLines.raw_lines, ManifestLines.last_line, declared.fault.Ending.Ending}
-use Rattle.sum_engine.proofs.CarriageReturnLemmas.{strips-kept}
-use Rattle.sum_engine.proofs.OldNames.{parts_clean, same_escape, CleanParsedLine, says_clean, said_once, said_one}
-use Rattle.sum_engine.specs.Behavior.{World, world_after}
-use Rattle.sum_engine.specs.OldVerdicts.{older_escape, SaidOnce, EachSaidOnce, ContentSaidOnce, HasNoCarriageReturn}
-use Rattle.sum_engine.specs.OldVerdicts.{NamesNoCarriageReturn, OldVerdicts, OlderDiffers}
-use Rattle.sum_engine.specs.check.Judge.{LineVerdictValue, line_verdict, asks_of, verdicts, parsed_content}
-use Rattle.sum_engine.specs.check.{Judge.all_verdicts, Rules.CheckRules}
+use Rattle.sum_sources.{proofs.CutLemmas.bytes_of_lines, proofs.CutLemmas.cut, proofs.CutLemmas.raw_lines-joined, specs.ManifestLines.raw_lines, specs.ManifestLines.last_line, specs.declared.fault.Ending.Ending}
+use Rattle.sum_engine.specs.OldVerdicts.{older_escape, SaidOnce, EachSaidOnce, ContentSaidOnce, HasNoCarriageReturn, NamesNoCarriageReturn, OldVerdicts, OlderDiffers}
+use Rattle.sum_engine.proofs.{CarriageReturnLemmas.strips-kept, OldNames.parts_clean, OldNames.same_escape, OldNames.CleanParsedLine, OldNames.says_clean, OldNames.said_once, OldNames.said_one}
+use Rattle.sum_engine.specs.{check.Rules.CheckRules, Behavior.World, Behavior.world_after, check.Judge.LineVerdictValue, check.Judge.line_verdict, check.Judge.asks_of, check.Judge.verdicts, check.Judge.parsed_content, check.Judge.all_verdicts}
 
 -- ---- the lines
 

@@ -1,12 +1,9 @@
 -- `check_one`: a name is opened, read and closed, and in between other calls may open names.
 use Rattle.std.proofs.Common.{rules, refl, ◌≡◌, ◌∙◌, [], ◌∷◌, ◌++◌, ℕ, List, Ok, Err, None, Some, append_assoc}
 use Rattle.std.proofs.lemmas.List.{map-append, Elements.All-cons}
-use Rattle.sum_sources.{proofs.GaveLemmas.closed-seam, proofs.GaveLemmas.gave-seam, specs.declared.fault.Fault.Fault}
-use Rattle.sum_sources.specs.inputs.Input.{Fits, IsSameInput, Content, InputState}
-use Rattle.sum_sources.specs.sources.Source.{Opening, ToldAnswers, opened_file, state_with_opening, state_after_closing}
-use Rattle.sum_sources.specs.sources.Source.{IsOpen, SourceState, times, result_at}
-use Rattle.sum_engine.proofs.WorldLemmas.{agrees_open, opening_agrees, asks_one}
-use Rattle.sum_engine.specs.Behavior.{World, answer_to}
+use Rattle.sum_sources.{proofs.GaveLemmas.closed-seam, proofs.GaveLemmas.gave-seam, specs.declared.fault.Fault.Fault, specs.inputs.Input.Fits, specs.inputs.Input.IsSameInput, specs.inputs.Input.Content, specs.inputs.Input.InputState}
+use Rattle.sum_sources.specs.sources.Source.{Opening, ToldAnswers, opened_file, state_with_opening, state_after_closing, IsOpen, SourceState, times, result_at}
+use Rattle.sum_engine.{proofs.WorldLemmas.agrees_open, proofs.WorldLemmas.opening_agrees, proofs.WorldLemmas.asks_one, specs.Behavior.World, specs.Behavior.answer_to}
 use Rattle.sum_engine.specs.Execution.{Agrees, world_at, opened_names, AsksNames, IsAtEndIf, ReadsFile, ReadsToEndIf}
 
 -- the name was opened; over the opening, some calls and the closing all was read as `ReadsToEndIf` says; and what was

@@ -1,15 +1,9 @@
 -- How far a manifest was read when its check stopped.
-use Rattle.std.proofs.Common.{rules, arith, ◌≡◌, ◌≤◌, ◌+◌, ◌^◌, ℕ, List, [], ◌∷◌, ◌++◌, length, Bool, Result, Ok, Err}
-use Rattle.std.proofs.Common.{refl, ap, ◌∙◌, length-append, length-take}
+use Rattle.std.proofs.Common.{rules, arith, ◌≡◌, ◌≤◌, ◌+◌, ◌^◌, ℕ, List, [], ◌∷◌, ◌++◌, length, Bool, Result, Ok, Err, refl, ap, ◌∙◌, length-append, length-take}
 use Rattle.std.specs.Prelude.{IfErr}
-use Rattle.sum_sources.proofs.ContentLemmas.{limit-value}
-use Rattle.sum_sources.specs.declared.inputs.input.Phase.{Phase, TheVariants.Past}
-use Rattle.sum_sources.specs.inputs.Input.{IsReadTo, clip, Content}
-use Rattle.sum_engine.proofs.BehaviorLemmas.{HasDoneUpTo, behavior_then-first}
-use Rattle.sum_engine.{proofs.RemainingLemmas.remaining_before-left, specs.Behavior.Behavior}
-use Rattle.sum_engine.specs.{Streams.StreamsState, check.CheckOne.remaining_before, check.CheckOne.StopsAtStep}
-use Rattle.sum_engine.specs.check.Checker.{remaining_behavior, IsStep, end_result, progress_before}
-use Rattle.sum_engine.specs.check.{Rules.LabelsValue, Rules.CheckRules, Verdicts.CheckState}
+use Rattle.sum_sources.{proofs.ContentLemmas.limit-value, specs.declared.inputs.input.Phase.Phase, specs.declared.inputs.input.Phase.TheVariants.Past, specs.inputs.Input.IsReadTo, specs.inputs.Input.clip, specs.inputs.Input.Content}
+use Rattle.sum_engine.{proofs.BehaviorLemmas.HasDoneUpTo, proofs.BehaviorLemmas.behavior_then-first, proofs.RemainingLemmas.remaining_before-left, specs.Behavior.Behavior, specs.Streams.StreamsState}
+use Rattle.sum_engine.specs.check.{CheckOne.remaining_before, CheckOne.StopsAtStep, Checker.remaining_behavior, Checker.IsStep, Checker.end_result, Checker.progress_before, Rules.LabelsValue, Rules.CheckRules, Verdicts.CheckState}
 use Rattle.sum_settings.specs.declared.stop.Stop.{Stop, TheVariants.Write, TheVariants.Memory}
 
 -- reads that didn't go past an end gave, up to the limit, not many more bytes than the content has below the limit

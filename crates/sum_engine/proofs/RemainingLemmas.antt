@@ -1,16 +1,10 @@
 -- The verdicts and the behavior that remain, after one line and the next.
 use Rattle.std.proofs.Common.{rules, arith, ◌≡◌, ◌≤◌, ℕ, zero, suc, List, [], ◌∷◌, length, refl, ap, ◌∙◌}
 use Rattle.sum_lines.proofs.EntryLemmas.{form_next, parse_stays}
-use Rattle.sum_engine.proofs.CountLemmas.{counts_then-line}
-use Rattle.sum_engine.specs.Behavior.{world_after, Step, Behavior}
-use Rattle.sum_engine.specs.check.CheckOne.{line_steps, remaining_before}
-use Rattle.sum_engine.specs.check.Checker.{remaining_behavior, Going, behavior_from, progress_before}
-use Rattle.sum_engine.specs.check.Counts.{Counts, counts_of, good, counts_and_line, counts_then}
-use Rattle.sum_engine.specs.check.Judge.{LineVerdictValue, asks_of}
-use Rattle.sum_engine.specs.check.{Report.out_of, Report.err_of, Rules.LabelsValue, Rules.CheckRules, Summary.end_text}
-use Rattle.sum_engine.specs.check.Verdicts.{CheckState, HandlesLine, next_judged, remaining_verdicts}
-use Rattle.sum_sources.specs.ManifestLines.{past_line, content_past_lines}
-use Rattle.sum_sources.specs.{declared.fault.Ending.Ending, inputs.Input.Content}
+use Rattle.sum_engine.{proofs.CountLemmas.counts_then-line, specs.Behavior.world_after, specs.Behavior.Step, specs.Behavior.Behavior, specs.check.Rules.LabelsValue}
+use Rattle.sum_engine.specs.check.{Rules.CheckRules, CheckOne.line_steps, CheckOne.remaining_before, Summary.end_text, Judge.LineVerdictValue, Judge.asks_of, Counts.Counts, Counts.counts_of, Counts.good, Counts.counts_and_line, Counts.counts_then}
+use Rattle.sum_engine.specs.check.{Checker.remaining_behavior, Checker.Going, Checker.behavior_from, Checker.progress_before, Verdicts.CheckState, Verdicts.HandlesLine, Verdicts.next_judged, Verdicts.remaining_verdicts, Report.out_of, Report.err_of}
+use Rattle.sum_sources.specs.{ManifestLines.past_line, ManifestLines.content_past_lines, declared.fault.Ending.Ending, inputs.Input.Content}
 
 -- one line's verdict, and those that remain after it
 pub remaining_next : (r : CheckRules) (a b : CheckState) (v : List ℕ) (h : HandlesLine r a b v)

@@ -1,13 +1,8 @@
 -- `same_front`: later lines have no part in what a line says, by induction on the lines before it.
-use Rattle.std.proofs.Common.{rules, ◌≡◌, ℕ, ◌+◌, List, [], ◌∷◌, ◌++◌, length, take, refl, sym, ◌∙◌, append_assoc}
-use Rattle.std.proofs.Common.{length-append, map}
-use Rattle.sum_engine.specs.{Behavior.World, Behavior.world_after, Laws.SameFront, check.Judge.LineVerdictValue}
-use Rattle.sum_engine.specs.check.{Judge.line_verdict, Judge.asks_of, Judge.verdicts, Rules.CheckRules}
-use Rattle.sum_lines.proofs.EntryLemmas.{form_next, parse_stays, same_parse, same_form}
-use Rattle.sum_lines.{proofs.ParsedLineLemmas.parse_is_grammar, specs.Escape.escape}
-use Rattle.sum_lines.specs.declared.reading.read_line.Form.{Form, TheVariants.Undecided}
-use Rattle.sum_lines.specs.grammar.Entries.{EntryValue, IsEntry}
-use Rattle.sum_lines.specs.grammar.{Form.form, Form.form_then, Form.line_form, ParsedLines.parse_line}
+use Rattle.std.proofs.Common.{rules, ◌≡◌, ℕ, ◌+◌, List, [], ◌∷◌, ◌++◌, length, take, refl, sym, ◌∙◌, append_assoc, length-append, map}
+use Rattle.sum_engine.specs.{Behavior.World, Behavior.world_after, Laws.SameFront, check.Judge.LineVerdictValue, check.Judge.line_verdict, check.Judge.asks_of, check.Judge.verdicts, check.Rules.CheckRules}
+use Rattle.sum_lines.specs.{Escape.escape, grammar.ParsedLines.parse_line, grammar.Entries.EntryValue, grammar.Entries.IsEntry, declared.reading.read_line.Form.Form, grammar.Form.form, grammar.Form.form_then, grammar.Form.line_form}
+use Rattle.sum_lines.{proofs.ParsedLineLemmas.parse_is_grammar, proofs.EntryLemmas.form_next, proofs.EntryLemmas.parse_stays, proofs.EntryLemmas.same_parse, proofs.EntryLemmas.same_form, specs.declared.reading.read_line.Form.TheVariants.Undecided}
 use Rattle.digest_kinds.specs.declared.algo.Algos.{Algos}
 
 -- the verdicts of the first lines, by the form so far

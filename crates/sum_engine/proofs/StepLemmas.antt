@@ -1,21 +1,11 @@
 -- One step of a checker, `Checker::step`: the next verdict was found, and its text was written.
-use Rattle.std.proofs.Common.{rules, ◌≡◌, ◌⊎◌, ◌<◌, ◌≤◌, ℕ, Bool, true, false, List, [], length, None, Some, Result, Ok}
-use Rattle.std.proofs.Common.{Err, inl, inr, refl, ap, ◌∙◌, arith}
-use Rattle.sum_sources.specs.LineReader.{remaining_content}
-use Rattle.sum_sources.specs.declared.fault.Ending.{Ending, TheVariants.Whole, TheVariants.Broken}
-use Rattle.sum_sources.specs.{inputs.Input.Content, inputs.Input.InputState, sources.Source.SourceState}
-use Rattle.sum_engine.proofs.CountLemmas.{counts_then-nil}
-use Rattle.sum_engine.proofs.ExecutionLemmas.{step_performed, refused_first, one_at_most}
-use Rattle.sum_engine.proofs.RemainingLemmas.{line_step, behavior_by, first_step, going-before}
-use Rattle.sum_engine.{proofs.WorldLemmas.reads_weaker, specs.Behavior.World}
-use Rattle.sum_engine.specs.Execution.{RefusesMemory, AsksNames}
-use Rattle.sum_engine.specs.Streams.{StopHasCause, none_or_one, BothOutputs, StreamsState, WritesAndReturns}
-use Rattle.sum_engine.specs.check.Checker.{remaining_behavior, CheckerValue, Progress, Going, Ended, IsStep}
-use Rattle.sum_engine.specs.check.{Checker.ReportsFound, Checker.TakesStep, Counts.good, Judge.LineVerdict}
-use Rattle.sum_engine.specs.check.{Judge.line_verdict_value, Report.err_of, Report.out_of, Rules.LabelsValue}
-use Rattle.sum_engine.specs.check.{Summary.end_text, Verdicts.CheckState, Verdicts.remaining_verdicts}
-use Rattle.sum_engine.specs.check.Verdicts.{VerdictsValue, state_at, HoldsInEachCheck, AdvancesVerdicts, AsksFor}
-use Rattle.sum_engine.specs.check.Verdicts.{VerdictResult, IsNextVerdict, IsNotUnread, HasNoVerdictLeft}
+use Rattle.std.proofs.Common.{rules, ◌≡◌, ◌⊎◌, ◌<◌, ◌≤◌, ℕ, Bool, true, false, List, [], length, None, Some, Result, Ok, Err, inl, inr, refl, ap, ◌∙◌, arith}
+use Rattle.sum_sources.specs.{LineReader.remaining_content, declared.fault.Ending.Ending, declared.fault.Ending.TheVariants.Whole, declared.fault.Ending.TheVariants.Broken, inputs.Input.Content, inputs.Input.InputState, sources.Source.SourceState}
+use Rattle.sum_engine.proofs.{CountLemmas.counts_then-nil, ExecutionLemmas.step_performed, ExecutionLemmas.refused_first, ExecutionLemmas.one_at_most, RemainingLemmas.line_step, RemainingLemmas.behavior_by, RemainingLemmas.first_step}
+use Rattle.sum_engine.{proofs.RemainingLemmas.going-before, proofs.WorldLemmas.reads_weaker, specs.Behavior.World, specs.Execution.RefusesMemory}
+use Rattle.sum_engine.specs.{Execution.AsksNames, Streams.StopHasCause, Streams.none_or_one, Streams.BothOutputs, Streams.StreamsState, Streams.WritesAndReturns, check.Checker.remaining_behavior, check.Checker.CheckerValue, check.Checker.Progress}
+use Rattle.sum_engine.specs.check.{Checker.Going, Checker.Ended, Checker.IsStep, Checker.ReportsFound, Checker.TakesStep, Counts.good, Judge.LineVerdict, Judge.line_verdict_value, Report.err_of, Report.out_of, Rules.LabelsValue, Summary.end_text}
+use Rattle.sum_engine.specs.check.Verdicts.{CheckState, remaining_verdicts, VerdictsValue, state_at, HoldsInEachCheck, AdvancesVerdicts, AsksFor, VerdictResult, IsNextVerdict, IsNotUnread, HasNoVerdictLeft}
 use Rattle.sum_settings.specs.declared.stop.Stop.{Stop, TheVariants.Memory}
 use Rattle.sum_sources.specs.declared.line_reader.LineStop.TheVariants as line_stops
 

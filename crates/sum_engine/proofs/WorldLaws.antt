@@ -1,9 +1,7 @@
 -- The law that some world agrees with what was read and what is told: by the law of sources.
 use Rattle.std.proofs.Common.{arith, ◌≡◌, [], Option, None, Some, Result, Ok, Err, IfSome, refl}
-use Rattle.sum_sources.specs.declared.fault.Fault.{Fault, TheVariants.NotFound}
-use Rattle.sum_sources.specs.inputs.{Input.Reads, InputLaws.some_content}
-use Rattle.sum_sources.specs.sources.Source.{Answers, ToldAnswers, TellsAll, result_at, FitsAnswer, GivesTold}
-use Rattle.sum_sources.specs.sources.Source.{AnswerValue, SourceState}
+use Rattle.sum_sources.specs.{declared.fault.Fault.Fault, declared.fault.Fault.TheVariants.NotFound, inputs.Input.Reads, inputs.InputLaws.some_content}
+use Rattle.sum_sources.specs.sources.Source.{Answers, ToldAnswers, TellsAll, result_at, FitsAnswer, GivesTold, AnswerValue, SourceState}
 use Rattle.sum_engine.specs.{Execution.Agrees, Laws.ToldAgree}
 
 -- an answer that gave this

@@ -1,14 +1,10 @@
 -- Names opened one after another, and the worlds that agree with one call after another.
-use Rattle.std.proofs.Common.{rules, ◌≡◌, ap, refl, ℕ, zero, suc, List, [], ◌∷◌, ◌++◌, Option, None, Some, Result}
-use Rattle.std.proofs.Common.{IfSome, IfOk, append_assoc, append-nil, bytes_eq}
-use Rattle.std.proofs.lemmas.List.{map-append}
+use Rattle.std.proofs.Common.{rules, ◌≡◌, ap, refl, ℕ, zero, suc, List, [], ◌∷◌, ◌++◌, Option, None, Some, Result, IfSome, IfOk, append_assoc, append-nil, bytes_eq}
 use Rattle.std.proofs.lemmas.List.Elements.{All-nil, All-cons, All-append, All-weaker}
-use Rattle.std.{proofs.lemmas.Result.IfOk-weaker, specs.Option.option_flatten, specs.Prelude.slice_get}
-use Rattle.sum_sources.proofs.GaveLemmas.{true_or_false, gave-append, gave-seam}
-use Rattle.sum_sources.specs.{declared.fault.Fault.Fault, inputs.Input.Reads, sources.Source.Opening}
-use Rattle.sum_sources.specs.sources.Source.{FitsAnswer, state_with_opening, results_of, names_of, times, SourceState}
-use Rattle.sum_engine.specs.Behavior.{World, world_after}
-use Rattle.sum_engine.specs.Execution.{AsksNames, Agrees, world_at, IsAtEndIf, ReadsFile, ReadsToEndIf}
+use Rattle.std.{proofs.lemmas.List.map-append, proofs.lemmas.Result.IfOk-weaker, specs.Option.option_flatten, specs.Prelude.slice_get}
+use Rattle.sum_sources.{proofs.GaveLemmas.true_or_false, proofs.GaveLemmas.gave-append, proofs.GaveLemmas.gave-seam, specs.declared.fault.Fault.Fault, specs.inputs.Input.Reads}
+use Rattle.sum_sources.specs.sources.Source.{Opening, FitsAnswer, state_with_opening, results_of, names_of, times, SourceState}
+use Rattle.sum_engine.specs.{Behavior.World, Behavior.world_after, Execution.AsksNames, Execution.Agrees, Execution.world_at, Execution.IsAtEndIf, Execution.ReadsFile, Execution.ReadsToEndIf}
 
 -- ---- names asked
 

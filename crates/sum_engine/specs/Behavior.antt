@@ -2,9 +2,7 @@
 use Rattle.std.specs.Prelude.{ℕ, ◌&&◌, Bool, List, [], ◌∷◌, ◌++◌, map, flat_map, Result, Ok, Err}
 use Rattle.digest_kinds.specs.{Bytes.ByteString, Kind.KindValue, Kind.digest}
 use Rattle.sum_lines.specs.sinks.Output.{OutputEvent, output_events}
-use Rattle.sum_sources.specs.declared.fault.Ending.{Ending, TheVariants.Whole, TheVariants.Broken}
-use Rattle.sum_sources.specs.{declared.fault.Fault.Fault, inputs.Input.clip}
-use Rattle.sum_sources.specs.sources.Source.{AnswerValue, times}
+use Rattle.sum_sources.specs.{declared.fault.Ending.Ending, declared.fault.Ending.TheVariants.Whole, declared.fault.Ending.TheVariants.Broken, declared.fault.Fault.Fault, inputs.Input.clip, sources.Source.AnswerValue, sources.Source.times}
 
 -- a world: what the outside may be. A file may change between two openings of it
 pub record World : Type 0 where

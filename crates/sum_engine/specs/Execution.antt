@@ -1,15 +1,11 @@
 -- What a call reads, and what it performs of a behavior: the form of the headline.
-use Rattle.std.specs.Prelude.{ℕ, ◌≡◌, ◌≢◌, ◌+◌, ◌<◌, ◌⊎◌, Bool, List, ◌∷◌, ◌++◌, filter_map, All, Some, IfSome, Result}
-use Rattle.std.specs.Prelude.{Option, None, Ok, Err, IfOk}
+use Rattle.std.specs.Prelude.{ℕ, ◌≡◌, ◌≢◌, ◌+◌, ◌<◌, ◌⊎◌, Bool, List, ◌∷◌, ◌++◌, filter_map, All, Some, IfSome, Result, Option, None, Ok, Err, IfOk}
 use Rattle.digest_kinds.specs.Bytes.{ByteString}
 use Rattle.sum_settings.specs.declared.stop.Stop.{Stop, TheVariants.Memory, TheVariants.Write}
 use Rattle.sum_lines.specs.sinks.Output.{Gets, OutputEvent}
-use Rattle.sum_sources.specs.declared.fault.{Ending.TheVariants.Whole, Fault.Fault}
-use Rattle.sum_sources.specs.declared.inputs.input.Phase.TheVariants.{Ended, Past}
-use Rattle.sum_sources.specs.inputs.Input.{Reads}
+use Rattle.sum_sources.specs.{declared.fault.Ending.TheVariants.Whole, declared.fault.Fault.Fault, declared.inputs.input.Phase.TheVariants.Ended, declared.inputs.input.Phase.TheVariants.Past, inputs.Input.Reads}
 use Rattle.sum_sources.specs.sources.Source.{SourceState, Opening, FitsAnswer, names_of, result_at}
-use Rattle.sum_engine.specs.Behavior.{World, Event, open_name, to_err, to_out, Step, Behavior, trace}
-use Rattle.sum_engine.specs.Streams.{StreamsState}
+use Rattle.sum_engine.specs.{Behavior.World, Behavior.Event, Behavior.open_name, Behavior.to_err, Behavior.to_out, Behavior.Step, Behavior.Behavior, Behavior.trace, Streams.StreamsState}
 
 -- ---- what was read
 

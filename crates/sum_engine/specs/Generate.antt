@@ -4,8 +4,7 @@ use Rattle.sum_settings.specs.declared.settings.Settings.{Settings}
 use Rattle.digest_kinds.specs.Bytes.{ByteString}
 use Rattle.sum_lines.specs.writing.DigestLine.{line}
 use Rattle.sum_sources.specs.declared.fault.Fault.{Fault}
-use Rattle.sum_engine.specs.Behavior.{World, answer_to, digest_or_fault, Behavior, single_step}
-use Rattle.sum_engine.specs.ToolLines.{name_fault_line}
+use Rattle.sum_engine.specs.{Behavior.World, Behavior.answer_to, Behavior.digest_or_fault, Behavior.Behavior, Behavior.single_step, ToolLines.name_fault_line}
 
 -- the behavior for a name with this digest or fault: its line is written, or that of the fault
 abbrev pub generate_behavior_by : Settings → ByteString → ByteString → Result ByteString Fault → Behavior

@@ -1,18 +1,11 @@
 -- The laws about what was read, a checker's steps over a whole manifest, and the lines that precede a line.
-use Rattle.std.specs.Prelude.{ℕ, ◌≡◌, ◌+◌, ◌≤◌, ◌↔◌, Bool, List, [], ◌∷◌, ◌++◌, take, length, slice_index_or, Result}
-use Rattle.std.specs.Prelude.{Ok, IfSome, map}
+use Rattle.std.specs.Prelude.{ℕ, ◌≡◌, ◌+◌, ◌≤◌, ◌↔◌, Bool, List, [], ◌∷◌, ◌++◌, take, length, slice_index_or, Result, Ok, IfSome, map}
 use Rattle.digest_kinds.specs.{Bytes.ByteString, Kind.KindValue}
 use Rattle.sum_settings.specs.declared.stop.Stop.{Stop}
-use Rattle.sum_lines.specs.{Escape.escape, grammar.Entries.EntryValue}
-use Rattle.sum_lines.specs.grammar.{Entries.IsEntry, Form.form, ParsedLines.parse_line, Shapes.IsPlain}
-use Rattle.sum_sources.specs.{ManifestLines.content_past_lines, ManifestLines.lines, inputs.Input.Content}
-use Rattle.sum_sources.specs.sources.Source.{ToldAnswers, SourceState}
-use Rattle.sum_engine.specs.Behavior.{World, Behavior, trace, out_text, err_text, asks}
-use Rattle.sum_engine.specs.Execution.{Agrees, AsksNames, Happened, PerformsSteps}
-use Rattle.sum_engine.specs.{Streams.StreamsState, check.CheckOne.content_behavior}
-use Rattle.sum_engine.specs.check.Checker.{Going, Ended, IsStep, end_result}
-use Rattle.sum_engine.specs.check.{Judge.verdicts, Judge.all_verdicts, Rules.LabelsValue, Rules.CheckRules}
-use Rattle.sum_engine.specs.check.Verdicts.{CheckState, initial_state}
+use Rattle.sum_lines.specs.{Escape.escape, grammar.Entries.EntryValue, grammar.Entries.IsEntry, grammar.Form.form, grammar.ParsedLines.parse_line, grammar.Shapes.IsPlain}
+use Rattle.sum_sources.specs.{ManifestLines.content_past_lines, ManifestLines.lines, inputs.Input.Content, sources.Source.ToldAnswers, sources.Source.SourceState}
+use Rattle.sum_engine.specs.{Behavior.World, Behavior.Behavior, Behavior.trace, Behavior.out_text, Behavior.err_text, Behavior.asks, Execution.Agrees, Execution.AsksNames, Execution.Happened, Execution.PerformsSteps, Streams.StreamsState}
+use Rattle.sum_engine.specs.check.{CheckOne.content_behavior, Checker.Going, Checker.Ended, Checker.IsStep, Checker.end_result, Judge.verdicts, Judge.all_verdicts, Rules.LabelsValue, Rules.CheckRules, Verdicts.CheckState, Verdicts.initial_state}
 
 -- some world agrees with what was read so far, and has each answer that the source tells
 abbrev pub ToldAgree : ToldAnswers → SourceState → Type 0

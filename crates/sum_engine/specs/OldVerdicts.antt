@@ -1,14 +1,11 @@
 -- The law of old verdicts: a manifest from the time of older versions says now what it said to them.
-use Rattle.std.specs.List.{starts_with}
-use Rattle.std.specs.Prelude.{◌≡◌, ◌≢◌, ◌<◌, ◌↔◌, ◌==◌, List, [], ◌∷◌, length, flat_map, codes, IsTrue, All, ⊤}
-use Rattle.std.specs.{Prelude.if◌then◌else◌, Str.byte}
+use Rattle.std.specs.Prelude.{◌≡◌, ◌≢◌, ◌<◌, ◌↔◌, ◌==◌, List, [], ◌∷◌, length, flat_map, codes, IsTrue, All, ⊤, if◌then◌else◌}
+use Rattle.std.specs.{List.starts_with, Str.byte}
 use Rattle.digest_kinds.specs.{Bytes.ByteString, declared.algo.Algos.Algos}
-use Rattle.sum_lines.specs.{Escape.escape, declared.reading.read_line.Form.Form}
-use Rattle.sum_lines.specs.grammar.{Entries.EntryValue, Entries.IsEntry, Form.form}
+use Rattle.sum_lines.specs.{Escape.escape, declared.reading.read_line.Form.Form, grammar.Entries.EntryValue, grammar.Entries.IsEntry, grammar.Form.form}
 use Rattle.sum_lines.specs.grammar.ParsedLines.{ParsedLine, ignored, bad, entry}
 use Rattle.sum_sources.specs.{ManifestLines.raw_lines, declared.fault.Ending.TheVariants.Whole, inputs.Input.Content}
-use Rattle.sum_engine.specs.{Behavior.World, check.Judge.verdicts}
-use Rattle.sum_engine.specs.check.{Judge.all_verdicts, Judge.parsed_content, Rules.LabelsValue, Rules.CheckRules}
+use Rattle.sum_engine.specs.{Behavior.World, check.Judge.verdicts, check.Judge.all_verdicts, check.Judge.parsed_content, check.Rules.LabelsValue, check.Rules.CheckRules}
 
 -- the escape of older versions: a backslash becomes `\\`, and a newline `\n`; any other byte stays
 abbrev pub older_escape : ByteString → ByteString

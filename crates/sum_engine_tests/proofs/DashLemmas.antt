@@ -1,18 +1,11 @@
 -- `hash_with_stdin` and `check_once`: how often what a call performed opens `-`.
-use Rattle.std.proofs.Common.{arith, ◌≡◌, ◌∙◌, ◌+◌, ℕ, true, List, [], ◌∷◌, ◌++◌, Result, Ok, Err, refl, ap, sym}
-use Rattle.std.proofs.Common.{append-nil, codes, flat_map, filter_map}
-use Rattle.std.proofs.lemmas.{Grind.flat_map-append, List.Elements.filter_map-append, List.Sums.sum_by-append}
-use Rattle.std.{proofs.lemmas.Slice.Eq.bytes_eq-Decides, specs.Prelude.OnOk}
-use Rattle.sum_sources.specs.inputs.Input.{Content}
-use Rattle.sum_sources.specs.sources.{Source.AnswerValue, Source.times, WithStdin.is_dash}
+use Rattle.std.proofs.Common.{arith, ◌≡◌, ◌∙◌, ◌+◌, ℕ, true, List, [], ◌∷◌, ◌++◌, Result, Ok, Err, refl, ap, sym, append-nil, codes, flat_map, filter_map}
+use Rattle.std.{proofs.lemmas.Grind.flat_map-append, proofs.lemmas.List.Elements.filter_map-append, proofs.lemmas.List.Sums.sum_by-append, proofs.lemmas.Slice.Eq.bytes_eq-Decides, specs.Prelude.OnOk}
+use Rattle.sum_sources.specs.{inputs.Input.Content, sources.Source.AnswerValue, sources.Source.times, sources.WithStdin.is_dash}
 use Rattle.digest_kinds.specs.Bytes.{ByteString}
-use Rattle.sum_engine.specs.Behavior.{Step, World, trace}
-use Rattle.sum_engine.specs.Execution.{opened_name, PerformsSteps, opened_names}
-use Rattle.sum_engine.specs.{Streams.StreamsState, check.CheckOne.check_behavior_by, check.CheckOne.line_steps}
-use Rattle.sum_engine.specs.check.{Judge.verdicts, Rules.LabelsValue, Rules.labels_of, Rules.rules_of}
-use Rattle.sum_engine.specs.declared.check.rules.CheckRules.{CheckRules}
-use Rattle.sum_settings.specs.declared.{settings.CheckSettings.CheckSettings, stop.Stop.Stop}
-use Rattle.sum_settings.specs.declared.stop.Stop.TheVariants.{Memory, Write}
+use Rattle.sum_engine.specs.check.{Rules.LabelsValue, Rules.labels_of, Rules.rules_of, CheckOne.check_behavior_by, CheckOne.line_steps, Judge.verdicts}
+use Rattle.sum_engine.specs.{Execution.opened_name, Execution.PerformsSteps, Execution.opened_names, declared.check.rules.CheckRules.CheckRules, Behavior.Step, Behavior.World, Behavior.trace, Streams.StreamsState}
+use Rattle.sum_settings.specs.declared.{settings.CheckSettings.CheckSettings, stop.Stop.Stop, stop.Stop.TheVariants.Memory, stop.Stop.TheVariants.Write}
 use Rattle.sum_lines.specs.grammar.ParsedLines.{ParsedLine}
 
 -- how often `-` is among names

@@ -1,16 +1,11 @@
 -- The one form of a list of lines, and what later lines change of it: neither how a line parses nor the form after a
 -- plain line.
-use Rattle.std.proofs.Common.{ℕ, ◌≡◌, Bool, true, false, List, [], ◌∷◌, ◌++◌, Option, None, Some, refl, sym, ◌∙◌, inl}
-use Rattle.std.proofs.Common.{inr, arith, rules}
+use Rattle.std.proofs.Common.{ℕ, ◌≡◌, Bool, true, false, List, [], ◌∷◌, ◌++◌, Option, None, Some, refl, sym, ◌∙◌, inl, inr, arith, rules}
 use Rattle.std.{proofs.lemmas.Grind.common_steps, specs.List.AllPass}
 use Rattle.digest_kinds.{proofs.PrefixLemmas.none_of, specs.Kind.KindValue, specs.declared.algo.Algos.Algos}
-use Rattle.sum_lines.proofs.PlainLemmas.{plain-digits, plain_is_read, read_is_plain}
-use Rattle.sum_lines.proofs.TaggedLemmas.{BeginsText}
-use Rattle.sum_lines.specs.grammar.Entries.{EntryValue, is_ignored, IsEntry}
-use Rattle.sum_lines.specs.grammar.Form.{Form, Undecided, IsForm, form_then, line_form, form}
-use Rattle.sum_lines.specs.grammar.{LineLaws.HasOneForm, LineParts.LinePartsValue, LineParts.plain_parts}
-use Rattle.sum_lines.specs.grammar.ParsedLines.{entry_of, parse_line}
-use Rattle.sum_lines.specs.grammar.Shapes.{is_blank, mark, IsPlain}
+use Rattle.sum_lines.proofs.{PlainLemmas.plain-digits, PlainLemmas.plain_is_read, PlainLemmas.read_is_plain, TaggedLemmas.BeginsText}
+use Rattle.sum_lines.specs.grammar.{Entries.EntryValue, Entries.is_ignored, Entries.IsEntry, Form.Form, Form.Undecided, Form.IsForm}
+use Rattle.sum_lines.specs.grammar.{Form.form_then, Form.line_form, Form.form, LineLaws.HasOneForm, LineParts.LinePartsValue, LineParts.plain_parts, ParsedLines.entry_of, ParsedLines.parse_line, Shapes.is_blank, Shapes.mark, Shapes.IsPlain}
 
 -- a line of either shape isn't ignored
 not_ignored : (blanks : List ℕ) (e : Bool) (xs rest : List ℕ) → AllPass is_blank blanks → BeginsText xs

@@ -1,11 +1,8 @@
 -- The pieces of a text, the events of these, and what happened of them.
-use Rattle.std.proofs.Common.{ℕ, zero, suc, ◌≡◌, ◌<◌, ◌≤◌, ◌+◌, ◌*◌, ◌/◌, ◌%◌, List, [], ◌∷◌, ◌++◌, length, drop}
-use Rattle.std.proofs.Common.{flat_map, filter_map, refl, sym, ap, append_assoc, append-nil, length-append, length-drop}
-use Rattle.std.proofs.{Common.take_all, Common.arith, lemmas.Grind.common_steps}
-use Rattle.std.proofs.lemmas.List.{take-append-le, drop-append-le, Concat.flat_map-append, Elements.filter_map-append}
+use Rattle.std.proofs.Common.{ℕ, zero, suc, ◌≡◌, ◌<◌, ◌≤◌, ◌+◌, ◌*◌, ◌/◌, ◌%◌, List, [], ◌∷◌, ◌++◌, length, drop, flat_map, filter_map, refl, sym, ap, append_assoc, append-nil, length-append, length-drop, take_all, arith}
+use Rattle.std.proofs.lemmas.{Grind.common_steps, List.take-append-le, List.drop-append-le, List.Concat.flat_map-append, List.Elements.filter_map-append}
 use Rattle.std.specs.{List.concat, Simd.first_chunks}
-use Rattle.sum_lines.specs.sinks.Output.{OutputState, OutputEvent, offer_piece, write_byte, written_byte, pieces}
-use Rattle.sum_lines.specs.sinks.Output.{byte_events, output_events, OffersEach, Gets, GetsPrefix}
+use Rattle.sum_lines.specs.sinks.Output.{OutputState, OutputEvent, offer_piece, write_byte, written_byte, pieces, byte_events, output_events, OffersEach, Gets, GetsPrefix}
 
 -- ---- the pieces of a text
 

@@ -1,10 +1,8 @@
 -- A text of one piece is given to a sink. `a`, `b` and `c` are the sink before, between and after.
-use Rattle.std.proofs.Common.{ℕ, zero, suc, ◌≡◌, ◌<◌, ◌≤◌, List, [], ◌∷◌, ◌++◌, length, take, drop, filter_map, Ok, Err}
-use Rattle.std.proofs.Common.{inl, inr, refl, ap, append_assoc, append-nil, arith, rules}
+use Rattle.std.proofs.Common.{ℕ, zero, suc, ◌≡◌, ◌<◌, ◌≤◌, List, [], ◌∷◌, ◌++◌, length, take, drop, filter_map, Ok, Err, inl, inr, refl, ap, append_assoc, append-nil, arith, rules}
 use Rattle.std.proofs.lemmas.List.Elements.{filter_map-append}
-use Rattle.sum_lines.proofs.EventLemmas.{one_piece}
-use Rattle.sum_lines.specs.sinks.Output.{OutputEvent, OffersEach, GivesAll, offer_piece, write_byte, written_byte}
-use Rattle.sum_lines.specs.sinks.{Output.byte_events, Output.output_events, Sink.SinkState, Sink.WritesSome}
+use Rattle.sum_lines.specs.sinks.Output.{OutputEvent, OffersEach, GivesAll, offer_piece, write_byte, written_byte, byte_events, output_events}
+use Rattle.sum_lines.{specs.sinks.Sink.SinkState, specs.sinks.Sink.WritesSome, proofs.EventLemmas.one_piece}
 
 -- what is left of a piece is offered, if anything is
 abbrev again : List ℕ → List (List ℕ)

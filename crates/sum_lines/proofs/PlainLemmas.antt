@@ -1,19 +1,13 @@
 -- A line that is put together from the parts of a plain line is read as these parts, and no other line is read as
 -- plain. No line is both plain and tagged.
-use Rattle.std.proofs.Common.{ℕ, ◌≡◌, ◌<◌, ◌≤◌, not, Bool, true, List, ◌∷◌, ◌++◌, length, get_or, None, Some, Ok, refl}
-use Rattle.std.proofs.Common.{ap, sym, ◌∙◌, arith, length-drop, take_while, rules}
-use Rattle.std.proofs.{Math.Seq.drop-append-add, lemmas.List.take_at, lemmas.List.Elements.All-head}
-use Rattle.std.proofs.lemmas.List.{Elements.All-tail, Elements.All-weaker, Sums.split_at_first, Sums.passes_at_first}
-use Rattle.std.specs.List.{AllPass, before_first, after_first, position_or_len}
+use Rattle.std.{proofs.Math.Seq.drop-append-add, specs.List.AllPass, specs.List.before_first, specs.List.after_first, specs.List.position_or_len}
+use Rattle.std.proofs.lemmas.List.{Sums.split_at_first, Sums.passes_at_first, Elements.All-head, Elements.All-tail, Elements.All-weaker, take_at}
+use Rattle.std.proofs.Common.{ℕ, ◌≡◌, ◌<◌, ◌≤◌, not, Bool, true, List, ◌∷◌, ◌++◌, length, get_or, None, Some, Ok, refl, ap, sym, ◌∙◌, arith, length-drop, take_while, rules}
 use Rattle.hex.{proofs.HexLemmas.decode_of-ok, specs.Hex.decode_of, specs.Hex.is_hex_digit}
-use Rattle.digest_kinds.proofs.KindLemmas.{no_digits}
-use Rattle.digest_kinds.proofs.PrefixLemmas.{prefix_passes, prefix-and-rest, prefix_len-stop}
-use Rattle.digest_kinds.specs.{Algo.tag, Bytes.after_while, Kind.KindValue}
+use Rattle.digest_kinds.{proofs.KindLemmas.no_digits, proofs.PrefixLemmas.prefix_passes, proofs.PrefixLemmas.prefix-and-rest, proofs.PrefixLemmas.prefix_len-stop, specs.Algo.tag, specs.Bytes.after_while, specs.Kind.KindValue}
 use Rattle.digest_kinds.specs.declared.algo.{Algo.Algo, Algos.Algos, Algos.TheVariants.One, Algos.TheVariants.Any}
-use Rattle.sum_lines.proofs.PrefixLemmas.{text, mark_and_rest-is}
-use Rattle.sum_lines.proofs.TaggedLemmas.{BeginsText, hex-no_blank, tagged-prefix, mark_and_rest-prefix}
-use Rattle.sum_lines.specs.grammar.{LineParts.LinePartsValue, LineParts.plain_parts, Shapes.is_blank, Shapes.IsPlain}
-use Rattle.sum_lines.specs.{grammar.Shapes.IsTagged, private.Beginnings.BeginsWithDigits}
+use Rattle.sum_lines.proofs.{PrefixLemmas.text, PrefixLemmas.mark_and_rest-is, TaggedLemmas.BeginsText, TaggedLemmas.hex-no_blank, TaggedLemmas.tagged-prefix, TaggedLemmas.mark_and_rest-prefix}
+use Rattle.sum_lines.specs.{grammar.LineParts.LinePartsValue, grammar.LineParts.plain_parts, grammar.Shapes.is_blank, grammar.Shapes.IsPlain, grammar.Shapes.IsTagged, private.Beginnings.BeginsWithDigits}
 
 -- ---- what is read joins to the line
 

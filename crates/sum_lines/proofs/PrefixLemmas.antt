@@ -1,12 +1,8 @@
 -- What follows a text or a byte in a line.
-use Rattle.std.proofs.Common.{ℕ, zero, suc, ◌≡◌, ◌≢◌, ◌+◌, ◌<◌, ◌≤◌, Bool, true, cond, ◌==◌, List, [], ◌∷◌, ◌++◌}
-use Rattle.std.proofs.Common.{length, take, drop, get_or, Option, Some, refl, arith, length-append, All, option_map}
-use Rattle.std.proofs.Math.Seq.{get_or-append_seam, drop-append-add}
-use Rattle.std.proofs.lemmas.{Bool.eq-eqb, Bool.Decides.Decides-eqb, Grind.common_steps, List.take_at}
-use Rattle.std.proofs.lemmas.{List.get_or-append_right, List.Elements.All-get_or, Slice.Eq.starts_is}
-use Rattle.std.specs.{List.starts_with, Option.option_or, Path.rsplit_once, Path.rfind_below}
-use Rattle.memchr.proofs.lemmas.{FindLemmas.Nowhere-more, ValueLemmas.IsLastByte-value}
-use Rattle.memchr.specs.Find.{Passes, IsLast, IsLastByte, is_byte}
+use Rattle.std.proofs.lemmas.{Bool.Decides.Decides-eqb, List.take_at, List.get_or-append_right, Bool.eq-eqb, Grind.common_steps, Slice.Eq.starts_is}
+use Rattle.std.{specs.Option.option_or, proofs.lemmas.List.Elements.All-get_or, specs.Path.rsplit_once, specs.Path.rfind_below, proofs.Math.Seq.get_or-append_seam, proofs.Math.Seq.drop-append-add, specs.List.starts_with}
+use Rattle.std.proofs.Common.{ℕ, zero, suc, ◌≡◌, ◌≢◌, ◌+◌, ◌<◌, ◌≤◌, Bool, true, cond, ◌==◌, List, [], ◌∷◌, ◌++◌, length, take, drop, get_or, Option, Some, refl, arith, length-append, All, option_map}
+use Rattle.memchr.{proofs.lemmas.FindLemmas.Nowhere-more, proofs.lemmas.ValueLemmas.IsLastByte-value, specs.Find.Passes, specs.Find.IsLast, specs.Find.IsLastByte, specs.Find.is_byte}
 use Rattle.digest_kinds.{proofs.PrefixLemmas.map_some, specs.Bytes.after_while}
 use Rattle.sum_lines.specs.grammar.{LineParts.strip_prefix, LineParts.mark_and_rest, Shapes.is_blank, Shapes.mark}
 

@@ -1,21 +1,15 @@
 -- A line that is written is read back. It has a shape, which spells the name and the digest that it was written for. It
 -- has no newline and no carriage return before its end.
-use Rattle.std.proofs.Common.{ℕ, ◌≡◌, ◌*◌, not, cond, Bool, true, false, ◌==◌, ◌||◌, List, [], ◌∷◌, ◌++◌, refl, ◌⊎◌}
-use Rattle.std.proofs.Common.{inl, inr, append_assoc, arith, decimal}
-use Rattle.std.proofs.lemmas.{Grind.common_steps, List.append-nil, List.Folds.list_all-append}
-use Rattle.std.proofs.lemmas.{List.Sums.list_all-from_AllPass, Slice.Eq.bytes_eq-Decides}
+use Rattle.std.proofs.Common.{ℕ, ◌≡◌, ◌*◌, not, cond, Bool, true, false, ◌==◌, ◌||◌, List, [], ◌∷◌, ◌++◌, refl, ◌⊎◌, inl, inr, append_assoc, arith, decimal}
+use Rattle.std.proofs.lemmas.{Grind.common_steps, List.append-nil, List.Folds.list_all-append, List.Sums.list_all-from_AllPass, Slice.Eq.bytes_eq-Decides}
 use Rattle.std.specs.{Char.is_ascii_digit, List.AllPass, List.list_all}
 use Rattle.hex.{proofs.HexLemmas.decode_of-encode_lower, specs.Hex.encode_lower, specs.Hex.is_hex_digit}
 use Rattle.digest_kinds.proofs.{BitsLemmas.decimal-digits, KindLemmas.has_len-range, PrefixLemmas.none_of}
-use Rattle.digest_kinds.specs.{Algo.tag, Kind.KindValue, KindText.IsWidth}
-use Rattle.digest_kinds.specs.declared.algo.{Algo.TheVariants.Blake2b, Algos.Algos, Algos.TheVariants.One}
+use Rattle.digest_kinds.specs.{Algo.tag, Kind.KindValue, KindText.IsWidth, declared.algo.Algo.TheVariants.Blake2b, declared.algo.Algos.Algos, declared.algo.Algos.TheVariants.One}
 use Rattle.sum_settings.specs.declared.style.Mode.{Mode}
-use Rattle.sum_lines.proofs.{EntryLemmas.form_at, EscapeLemmas.length-escape, ParsedLineLemmas.one_entry}
+use Rattle.sum_lines.specs.grammar.{LineLaws.IsWritable, LineLaws.SpellsBack, LineLaws.IsReadBack, Shapes.mark, Shapes.Allows, Shapes.IsPlain, Shapes.IsTagged, Form.Form, Form.Undecided, Form.Standard, Form.begins_standard, Form.line_form, Form.form}
 use Rattle.sum_lines.proofs.PlainLemmas.{one_shape, digits-of, plain_is_read, read_is_plain}
-use Rattle.sum_lines.specs.{Escape.escape, Escape.escape_differs, grammar.Entries.IsEntry}
-use Rattle.sum_lines.specs.grammar.Form.{Form, Undecided, Standard, begins_standard, line_form, form}
-use Rattle.sum_lines.specs.grammar.LineLaws.{IsWritable, SpellsBack, IsReadBack}
-use Rattle.sum_lines.specs.grammar.{LineParts.plain_parts, Shapes.mark, Shapes.Allows, Shapes.IsPlain, Shapes.IsTagged}
+use Rattle.sum_lines.{proofs.ParsedLineLemmas.one_entry, specs.grammar.LineParts.plain_parts, specs.Escape.escape, specs.Escape.escape_differs, specs.grammar.Entries.IsEntry, proofs.EntryLemmas.form_at, proofs.EscapeLemmas.length-escape}
 use Rattle.sum_lines.specs.writing.DigestLine as lines
 
 -- a line that ends with a newline, without it

@@ -1,22 +1,15 @@
 -- What the functions that scan a line return, step by step; what a line begins with, and the parts that it is then read
 -- as. The code looks for the first blank of a plain line's text among as many bytes as the longest digest has digits.
-use Rattle.std.proofs.Common.{ℕ, ◌≡◌, ◌≢◌, ◌+◌, ◌-◌, ◌*◌, ◌<◌, ◌≤◌, List, [], ◌∷◌, ◌++◌, length, take, drop}
-use Rattle.std.proofs.Common.{slice_range, Option, None, Some, MatchOption, Ok, Bor, sym, arith, append_assoc}
-use Rattle.std.proofs.Common.{option_copied, get_or, min, ◌/◌, true, cond, IfNone, IfSome, refl, length-drop, rules}
-use Rattle.std.proofs.lemmas.{Grind.common_steps, List.drop_at, List.get_or-take}
-use Rattle.std.proofs.lemmas.List.{length-take, Elements.All-get_or, Sums.passes_at_first, Sums.position_or_len_is}
-use Rattle.std.specs.{List.position_or_len, Option.option_or, Path.rsplit_once}
+use Rattle.std.proofs.lemmas.List.{drop_at, get_or-take, length-take, Elements.All-get_or, Sums.passes_at_first, Sums.position_or_len_is}
+use Rattle.std.proofs.Common.{ℕ, ◌≡◌, ◌≢◌, ◌+◌, ◌-◌, ◌*◌, ◌<◌, ◌≤◌, List, [], ◌∷◌, ◌++◌, length, take, drop, slice_range, Option, None, Some, MatchOption, Ok, Bor, sym, arith, append_assoc, option_copied, get_or, min, ◌/◌, true, cond, IfNone, IfSome}
+use Rattle.std.{proofs.Common.refl, proofs.Common.length-drop, proofs.Common.rules, specs.List.position_or_len, proofs.lemmas.Grind.common_steps, specs.Option.option_or, specs.Path.rsplit_once}
 use Rattle.memchr.specs.Find.{IsFirstByte, is_byte2}
 use Rattle.hex.{proofs.HexLemmas.decode_of-ok, specs.Hex.decode_of}
-use Rattle.digest_kinds.proofs.{KindLemmas.has_len-full, KindTextLemmas.kind_and_rest-some, PrefixLemmas.none_of}
-use Rattle.digest_kinds.specs.Algo.{tag, full_len, has_len}
-use Rattle.digest_kinds.specs.{Bytes.after_while, Digest.IsDigits, Kind.KindValue, KindText.kind_and_rest}
-use Rattle.digest_kinds.specs.declared.algo.{Algo.Algo, Algo.TheVariants.Blake2b, Algos.Algos, Algos.TheVariants.One}
-use Rattle.sum_lines.proofs.PlainLemmas.{uncut, cut-within, no_prefix, plain-digits, plain-prefix, read_is_plain}
+use Rattle.digest_kinds.specs.{KindText.kind_and_rest, Bytes.after_while, declared.algo.Algos.TheVariants.One, Kind.KindValue, Digest.IsDigits, Algo.tag, Algo.full_len, Algo.has_len, declared.algo.Algos.Algos, declared.algo.Algo.TheVariants.Blake2b}
+use Rattle.digest_kinds.{proofs.KindTextLemmas.kind_and_rest-some, proofs.PrefixLemmas.none_of, proofs.KindLemmas.has_len-full, specs.declared.algo.Algo.Algo}
+use Rattle.sum_lines.proofs.{TaggedLemmas.hex-no_blank, TaggedLemmas.tag_in-some, PlainLemmas.uncut, PlainLemmas.cut-within, PlainLemmas.no_prefix, PlainLemmas.plain-digits, PlainLemmas.plain-prefix, PlainLemmas.read_is_plain}
 use Rattle.sum_lines.proofs.PrefixLemmas.{text, opening, strip_prefix-some, starts-append, opened-some, rsplit-some}
-use Rattle.sum_lines.proofs.TaggedLemmas.{hex-no_blank, tag_in-some}
-use Rattle.sum_lines.specs.{declared.reading.line_parts.Front.Front, grammar.LineParts.strip_prefix}
-use Rattle.sum_lines.specs.grammar.{LineParts.tag_in, LineParts.tagged_parts, LineParts.plain_parts, Shapes.is_blank}
+use Rattle.sum_lines.specs.{declared.reading.line_parts.Front.Front, grammar.Shapes.is_blank, grammar.LineParts.strip_prefix, grammar.LineParts.tag_in, grammar.LineParts.tagged_parts, grammar.LineParts.plain_parts}
 use Rattle.sum_lines.specs.private.Beginnings.{IsFront, BeginsWithDigits, IsFirstBlank, EndsDigits, IsReadAs}
 use Rattle.sum_lines.specs.declared.reading.beginnings.Beginning.TheVariants as beginnings
 

@@ -1,10 +1,8 @@
 -- A text is written to a buffer piece by piece. `a`, `b` and `c` are the buffer before, between and after.
-use Rattle.std.proofs.Common.{ℕ, ◌≡◌, ◌<◌, ◌≤◌, ◌-◌, ◌+◌, ◌%◌, List, [], ◌++◌, length, take, Result, Ok, Err, inl, inr}
-use Rattle.std.proofs.Common.{min, refl, sym, ap, ◌∙◌, append_assoc, append-nil, length-append, length-take, lit<}
-use Rattle.std.{proofs.Common.rules, proofs.Common.arith, specs.Result.IsErr}
+use Rattle.std.proofs.Common.{ℕ, ◌≡◌, ◌<◌, ◌≤◌, ◌-◌, ◌+◌, ◌%◌, List, [], ◌++◌, length, take, Result, Ok, Err, inl, inr, min, refl, sym, ap, ◌∙◌, append_assoc, append-nil, length-append, length-take, lit<, rules, arith}
+use Rattle.std.specs.Result.{IsErr}
 use Rattle.sum_lines.proofs.EventLemmas.{output_events-append, Gets-none, Gets-then, GetsPrefix-then}
-use Rattle.sum_lines.specs.sinks.Buffered.{MakesRoom, BufferState, Accepts, FailsToWrite, WritesAll}
-use Rattle.sum_lines.specs.sinks.Output.{OutputState, GivesAll, output_events}
+use Rattle.sum_lines.specs.sinks.{Buffered.MakesRoom, Buffered.BufferState, Buffered.Accepts, Buffered.FailsToWrite, Buffered.WritesAll, Output.OutputState, Output.GivesAll, Output.output_events}
 
 -- ---- two texts, one after the other
 

@@ -1,23 +1,14 @@
 -- The parts that are read of a tagged line, put together, are the line. A line that is put together from the parts of a
 -- tagged line is read as these parts.
-use Rattle.std.proofs.Common.{ℕ, ◌≡◌, Bool, true, ◌==◌, ◌&&◌, List, [], ◌∷◌, ◌++◌, length, drop, Some, refl, ◌≢◌, false}
-use Rattle.std.proofs.Common.{eq-eqb, arith, nat_lt, take_while, All, rules}
-use Rattle.std.proofs.lemmas.Bool.{eqb-true, ltb-true, and_parts, lt-ltb, Decides.Decides-eqb}
-use Rattle.std.proofs.lemmas.{Grind.common_steps, List.drop_at}
-use Rattle.std.proofs.lemmas.List.Elements.{All-cons, All-head, All-append, All-weaker}
-use Rattle.std.proofs.lemmas.{List.Prefix.front_rest, Option.cond_some, Slice.Eq.starts_is}
-use Rattle.std.specs.{List.starts_with, List.AllPass, Option.option_or, Path.rsplit_once, Result.result_ok}
+use Rattle.std.proofs.Common.{ℕ, ◌≡◌, Bool, true, ◌==◌, ◌&&◌, List, [], ◌∷◌, ◌++◌, length, drop, Some, refl, ◌≢◌, false, eq-eqb, arith, nat_lt, take_while, All, rules}
+use Rattle.std.proofs.lemmas.{Bool.eqb-true, Bool.ltb-true, Bool.and_parts, Bool.lt-ltb, Bool.Decides.Decides-eqb, Grind.common_steps, List.drop_at, List.Elements.All-cons, List.Elements.All-head, List.Elements.All-append, List.Elements.All-weaker}
+use Rattle.std.{proofs.lemmas.List.Prefix.front_rest, proofs.lemmas.Option.cond_some, proofs.lemmas.Slice.Eq.starts_is, specs.List.starts_with, specs.List.AllPass, specs.Option.option_or, specs.Path.rsplit_once, specs.Result.result_ok}
 use Rattle.hex.{proofs.HexLemmas.decode_of-ok, specs.Hex.decode_of, specs.Hex.is_hex_digit}
-use Rattle.digest_kinds.proofs.BitsLemmas.{kind_of_digits-bits, decimal-digits}
-use Rattle.digest_kinds.proofs.{KindTextLemmas.kind_and_rest-some, PrefixLemmas.bind_some}
-use Rattle.digest_kinds.proofs.PrefixLemmas.{ok_some, prefix_passes, prefix-and-rest, parts-at, prefix_len-all}
-use Rattle.digest_kinds.{proofs.TagLemmas.IfSome-find-begins, proofs.TagLemmas.find-begins, specs.Algo.all_algos}
-use Rattle.digest_kinds.specs.{Algo.tag, Bytes.after_while, Kind.KindValue, KindText.IsWidth, KindText.kind_and_rest}
-use Rattle.digest_kinds.specs.declared.algo.{Algo.Algo, Algos.Algos, Algos.TheVariants.One, Algos.TheVariants.Any}
-use Rattle.sum_lines.proofs.PrefixLemmas.{text, opening, mark_and_rest-is, strip_prefix-some, opened-some, rsplit-some}
-use Rattle.sum_lines.proofs.PrefixLemmas.{opened-at, rsplit-at, starts-append}
-use Rattle.sum_lines.specs.grammar.LineParts.{LinePartsValue, strip_prefix, mark_and_rest, tag_in, tagged_parts}
-use Rattle.sum_lines.specs.grammar.Shapes.{is_blank, Allows, IsTagged, mark}
+use Rattle.digest_kinds.{proofs.BitsLemmas.kind_of_digits-bits, proofs.BitsLemmas.decimal-digits, proofs.KindTextLemmas.kind_and_rest-some, proofs.TagLemmas.IfSome-find-begins, proofs.TagLemmas.find-begins, specs.Bytes.after_while}
+use Rattle.digest_kinds.proofs.PrefixLemmas.{bind_some, ok_some, prefix_passes, prefix-and-rest, parts-at, prefix_len-all}
+use Rattle.digest_kinds.specs.{KindText.IsWidth, KindText.kind_and_rest, Algo.all_algos, Algo.tag, declared.algo.Algos.Algos, declared.algo.Algos.TheVariants.One, declared.algo.Algos.TheVariants.Any, Kind.KindValue, declared.algo.Algo.Algo}
+use Rattle.sum_lines.proofs.PrefixLemmas.{text, opening, mark_and_rest-is, strip_prefix-some, opened-some, rsplit-some, opened-at, rsplit-at, starts-append}
+use Rattle.sum_lines.specs.grammar.{LineParts.LinePartsValue, LineParts.strip_prefix, LineParts.mark_and_rest, LineParts.tag_in, LineParts.tagged_parts, Shapes.is_blank, Shapes.Allows, Shapes.IsTagged, Shapes.mark}
 
 -- ---- the tag
 

@@ -1,6 +1,5 @@
 -- How names are escaped, byte by byte.
-use Rattle.std.specs.Prelude.{ℕ, ◌==◌, Bool, not, [], ◌∷◌, flat_map, bytes_eq, codes, if◌then◌else◌}
-use Rattle.std.specs.Str.{byte}
+use Rattle.std.specs.{Prelude.ℕ, Prelude.◌==◌, Prelude.Bool, Prelude.not, Prelude.[], Prelude.◌∷◌, Prelude.flat_map, Prelude.bytes_eq, Prelude.codes, Prelude.if◌then◌else◌, Str.byte}
 use Rattle.digest_kinds.specs.Bytes.{ByteString}
 
 -- a backslash becomes `\\`, a newline `\n`, a carriage return `\r`; any other byte stays

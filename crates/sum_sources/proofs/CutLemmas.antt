@@ -1,11 +1,7 @@
 -- Bytes cut at their newlines.
-use Rattle.std.proofs.Common.{◌≡◌, ℕ, List, [], ◌∷◌, ◌++◌, refl, ap, ◌∙◌, append_assoc, inl, inr, false, All, arith}
-use Rattle.std.proofs.{Common.rules, lemmas.Bool.Decides.eqb_tells}
-use Rattle.std.proofs.lemmas.List.Elements.{All-nil, All-cons, All-head, All-tail}
-use Rattle.std.specs.{Char.is_newline, Prelude.flat_map}
-use Rattle.sum_sources.proofs.LineLemmas.{pieces-newline, pieces-last}
-use Rattle.sum_sources.specs.ManifestLines.{HasNoNewline, last_line, raw_lines}
-use Rattle.sum_sources.specs.declared.fault.Ending.{Ending}
+use Rattle.std.{proofs.lemmas.List.Elements.All-nil, proofs.lemmas.List.Elements.All-cons, proofs.lemmas.List.Elements.All-head, proofs.lemmas.List.Elements.All-tail, specs.Char.is_newline, specs.Prelude.flat_map, proofs.Common.◌≡◌}
+use Rattle.std.proofs.{Common.ℕ, Common.List, Common.[], Common.◌∷◌, Common.◌++◌, Common.refl, Common.ap, Common.◌∙◌, Common.append_assoc, Common.inl, Common.inr, Common.false, Common.All, Common.arith, Common.rules, lemmas.Bool.Decides.eqb_tells}
+use Rattle.sum_sources.{proofs.LineLemmas.pieces-newline, proofs.LineLemmas.pieces-last, specs.ManifestLines.HasNoNewline, specs.ManifestLines.last_line, specs.ManifestLines.raw_lines, specs.declared.fault.Ending.Ending}
 
 -- these pieces, each ended by a newline, and then the tail
 abbrev pub bytes_of_lines : List (List ℕ) → List ℕ → List ℕ

@@ -1,14 +1,8 @@
 -- What the openings of a name gave, after one more opening and after a closing.
-use Rattle.std.proofs.Common.{rules, ◌≡◌, ℕ, zero, suc, Bool, true, false, List, [], ◌∷◌, ◌++◌, length, slice_set}
-use Rattle.std.proofs.Common.{Option, None, Some, Result, Ok, IfSome, refl, ap, sym, ◌∙◌, append-nil, bytes_eq, arith}
-use Rattle.std.proofs.lemmas.{List.Elements.filter_map-append, List.Sums.sum_by-cons, Slice.Eq.bytes_eq-Decides}
-use Rattle.std.specs.{Option.option_flatten, Prelude.slice_get, Prelude.if◌then◌else◌}
-use Rattle.sum_sources.specs.{Fault.Fault, inputs.HashInput.HashesInput}
-use Rattle.sum_sources.specs.inputs.Input.{Content, Reads, InputState, HasContent, IsSameInput}
-use Rattle.sum_sources.specs.sources.HashFile.{HashesOpened}
-use Rattle.sum_sources.specs.sources.Source.{AnswerValue, Opening, SourceState, ToldAnswers, IsOpen, FitsAnswer}
-use Rattle.sum_sources.specs.sources.Source.{GivesTold, names_of, times, results_of, openings_after_closing}
-use Rattle.sum_sources.specs.sources.Source.{opened_file, state_with_opening, state_after_closing}
+use Rattle.std.proofs.Common.{rules, ◌≡◌, ℕ, zero, suc, Bool, true, false, List, [], ◌∷◌, ◌++◌, length, slice_set, Option, None, Some, Result, Ok, IfSome, refl, ap, sym, ◌∙◌, append-nil, bytes_eq, arith}
+use Rattle.std.{proofs.lemmas.List.Elements.filter_map-append, proofs.lemmas.List.Sums.sum_by-cons, proofs.lemmas.Slice.Eq.bytes_eq-Decides, specs.Option.option_flatten, specs.Prelude.slice_get, specs.Prelude.if◌then◌else◌}
+use Rattle.sum_sources.specs.{Fault.Fault, inputs.HashInput.HashesInput, inputs.Input.Content, inputs.Input.Reads, inputs.Input.InputState, inputs.Input.HasContent, inputs.Input.IsSameInput, sources.HashFile.HashesOpened}
+use Rattle.sum_sources.specs.sources.Source.{AnswerValue, Opening, SourceState, ToldAnswers, IsOpen, FitsAnswer, GivesTold, names_of, times, results_of, openings_after_closing, opened_file, state_with_opening, state_after_closing}
 use Rattle.digest_kinds.specs.Kind.{KindValue}
 
 -- names that the test finds equal are equal

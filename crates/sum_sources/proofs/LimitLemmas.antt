@@ -1,14 +1,9 @@
 -- `read_limited`: what an input's end, its fault and the limit say of its contents.
-use Rattle.std.proofs.Common.{◌≡◌, ℕ, zero, suc, ◌+◌, ◌-◌, ◌^◌, ◌<◌, ◌≤◌, [], ◌∷◌, ◌++◌, List, max, length, take}
-use Rattle.std.proofs.Common.{Result, Ok, Err, refl, arith, length-append, ap, append-nil, append_assoc, sym, ◌∙◌}
-use Rattle.std.proofs.Math.Seq.{take-append_seam}
-use Rattle.std.proofs.lemmas.List.{length-take-le, take-append-le, drop-append-le}
-use Rattle.std.specs.Result.{result_unwrap_or}
+use Rattle.std.proofs.Common.{◌≡◌, ℕ, zero, suc, ◌+◌, ◌-◌, ◌^◌, ◌<◌, ◌≤◌, [], ◌∷◌, ◌++◌, List, max, length, take, Result, Ok, Err, refl, arith, length-append, ap, append-nil, append_assoc, sym, ◌∙◌}
+use Rattle.std.{proofs.Math.Seq.take-append_seam, proofs.lemmas.List.length-take-le, proofs.lemmas.List.take-append-le, proofs.lemmas.List.drop-append-le, specs.Result.result_unwrap_or}
+use Rattle.sum_sources.specs.{Fault.Ending, Fault.Whole, Fault.Other, Fault.Fault, Fault.Broken, private.SizeLimit.FindsEnding, private.SizeLimit.AddsLimited}
 use Rattle.sum_sources.proofs.ContentLemmas.{limit-value, clip-short}
-use Rattle.sum_sources.specs.Fault.{Ending, Whole, Other, Fault, Broken}
-use Rattle.sum_sources.specs.inputs.Input.{Content, Reads, InputState, Fits, clip, state_after_read, reads_past, limit}
-use Rattle.sum_sources.specs.inputs.Input.{Ended, Unfinished}
-use Rattle.sum_sources.specs.private.SizeLimit.{FindsEnding, AddsLimited}
+use Rattle.sum_sources.specs.inputs.Input.{Content, Reads, InputState, Fits, clip, state_after_read, reads_past, limit, Ended, Unfinished}
 
 -- an input, of which the bytes past the first m count
 abbrev pub past : ℕ → InputState → InputState

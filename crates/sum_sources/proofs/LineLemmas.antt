@@ -1,12 +1,9 @@
 -- Pieces and lines at the steps of the line reader.
-use Rattle.std.proofs.Common.{◌≡◌, ℕ, ◌<◌, false, List, [], ◌∷◌, ◌++◌, length, map, Ok, Err, refl, ap, append_assoc}
-use Rattle.std.proofs.Common.{arith, rules}
-use Rattle.std.proofs.lemmas.{Grind.common_steps, List.append-nil, List.Elements.All-head, List.Elements.All-tail}
-use Rattle.std.proofs.lemmas.List.Splits.{slice_split_at, slice_split_none, length-slice_split}
+use Rattle.std.proofs.Common.{◌≡◌, ℕ, ◌<◌, false, List, [], ◌∷◌, ◌++◌, length, map, Ok, Err, refl, ap, append_assoc, arith, rules}
+use Rattle.std.proofs.lemmas.{Grind.common_steps, List.append-nil, List.Elements.All-head, List.Elements.All-tail, List.Splits.slice_split_at, List.Splits.slice_split_none, List.Splits.length-slice_split}
 use Rattle.std.specs.{Char.is_newline, List.after_first, Str.Lines.strip_carriage_return}
-use Rattle.sum_sources.{proofs.ContentLemmas.with_prefix, specs.Fault.Fault, specs.Fault.Ending, specs.Fault.Broken}
 use Rattle.sum_sources.specs.ManifestLines.{Line, last_line, raw_lines, lines, past_line, HasNoNewline, IsNextLine}
-use Rattle.sum_sources.specs.inputs.Input.{Content, empty_content}
+use Rattle.sum_sources.{specs.Fault.Fault, specs.Fault.Ending, specs.Fault.Broken, specs.inputs.Input.Content, specs.inputs.Input.empty_content, proofs.ContentLemmas.with_prefix}
 use Rattle.sum_sources.specs.declared.line_reader.LineStop.TheVariants as stops
 
 -- a newline ends the first piece

@@ -1,9 +1,7 @@
 -- The piece of a line in the reader's buffer.
-use Rattle.std.proofs.Common.{◌≡◌, ℕ, ◌+◌, ◌-◌, ◌<◌, ◌≤◌, List, ◌∷◌, ◌++◌, length, take, drop, get_or, false, refl, ◌∙◌}
-use Rattle.std.proofs.Common.{arith, add-one, length-take, length-drop}
-use Rattle.std.proofs.{Math.Seq.split_at, lemmas.Bool.false_from_ne_true}
-use Rattle.std.proofs.lemmas.List.{length-take-le, get_or-take, drop-take, drop-drop, Elements.All-from_get_or}
-use Rattle.std.specs.Char.{is_newline}
+use Rattle.std.{specs.Char.is_newline, proofs.lemmas.Bool.false_from_ne_true, proofs.Math.Seq.split_at}
+use Rattle.std.proofs.Common.{◌≡◌, ℕ, ◌+◌, ◌-◌, ◌<◌, ◌≤◌, List, ◌∷◌, ◌++◌, length, take, drop, get_or, false, refl, ◌∙◌, arith, add-one, length-take, length-drop}
+use Rattle.std.proofs.lemmas.List.{Elements.All-from_get_or, length-take-le, get_or-take, drop-take, drop-drop}
 use Rattle.memchr.specs.Find.{Nowhere, Passes, is_byte}
 use Rattle.sum_sources.specs.ManifestLines.{HasNoNewline}
 

@@ -1,18 +1,12 @@
 -- What was read so far of a line, and what reading on adds to it.
-use Rattle.std.proofs.Common.{rules, ◌≡◌, ℕ, zero, suc, ◌+◌, ◌-◌, ◌^◌, ◌<◌, ◌≤◌, true, false, List, [], ◌∷◌, ◌++◌}
-use Rattle.std.proofs.Common.{length, take, drop, None, Some, Result, subst, length-drop, Ok, Err, refl, ap, sym, ◌∙◌}
-use Rattle.std.proofs.Common.{append_assoc, arith, length-append}
-use Rattle.std.proofs.Math.Seq.{take-append-add, drop-append_seam}
-use Rattle.std.proofs.lemmas.List.{drop_all, Elements.All-append}
+use Rattle.std.proofs.Common.{rules, ◌≡◌, ℕ, zero, suc, ◌+◌, ◌-◌, ◌^◌, ◌<◌, ◌≤◌, true, false, List, [], ◌∷◌, ◌++◌, length, take, drop, None, Some, Result, subst, length-drop, Ok, Err, refl, ap, sym, ◌∙◌, append_assoc, arith, length-append}
+use Rattle.std.proofs.{Math.Seq.take-append-add, Math.Seq.drop-append_seam, lemmas.List.drop_all, lemmas.List.Elements.All-append}
 use Rattle.std.specs.{Char.is_newline, Prelude.nat_lt, Prelude.if◌then◌else◌, Str.Lines.strip_carriage_return}
-use Rattle.sum_sources.proofs.{ContentLemmas.with_prefix, ContentLemmas.limit-value, LimitLemmas.before_more}
-use Rattle.sum_sources.proofs.LineLemmas.{lines-nil, past_line-piece, IsNextLine-ended}
-use Rattle.sum_sources.specs.Fault.{Ending, Whole, Broken, Fault, Other}
-use Rattle.sum_sources.specs.LineReader.{LineReaderValue, consumed_count, content_past, reads_of, remaining_content}
-use Rattle.sum_sources.specs.LineReader.{IsUnderWay, IsReading, ReadsOn, FillsReader, TakesPiece}
-use Rattle.sum_sources.specs.ManifestLines.{Next, Line, NoMore, LineStop, HasNoNewline, IsNextLine, past_line}
+use Rattle.sum_sources.specs.LineReader.{LineReaderValue, consumed_count, content_past, reads_of, remaining_content, IsUnderWay, IsReading, ReadsOn, FillsReader, TakesPiece}
 use Rattle.sum_sources.specs.inputs.Input.{Content, InputState, Reads, Fits, Ended, Past, clip, limit, reads_past}
-use Rattle.sum_sources.specs.private.SizeLimit.{FindsEnding, AddsLimited, AddsPast, CountsBytes}
+use Rattle.sum_sources.specs.ManifestLines.{Next, Line, NoMore, LineStop, HasNoNewline, IsNextLine, past_line}
+use Rattle.sum_sources.specs.{Fault.Ending, Fault.Whole, Fault.Broken, Fault.Fault, Fault.Other, private.SizeLimit.FindsEnding, private.SizeLimit.AddsLimited, private.SizeLimit.AddsPast, private.SizeLimit.CountsBytes}
+use Rattle.sum_sources.proofs.{LineLemmas.lines-nil, LineLemmas.past_line-piece, LineLemmas.IsNextLine-ended, ContentLemmas.with_prefix, ContentLemmas.limit-value, LimitLemmas.before_more}
 use Rattle.sum_sources.specs.declared.line_reader.LineStop.TheVariants as stops
 
 -- the content without bytes that has this ending

@@ -2,8 +2,7 @@
 use Rattle.std.proofs.Common.{◌≡◌, ◌≤◌, ℕ, true, false, List, [], ◌∷◌, ◌++◌, length, refl, arith, bytes_eq, nat_le}
 use Rattle.std.{proofs.lemmas.Bool.Decides.nat_tests, proofs.lemmas.Option.slice_get_past, specs.Prelude.◌&&◌}
 use Rattle.sum_sources.proofs.GaveLemmas.{true_or_false, same_name, gave-times}
-use Rattle.sum_sources.specs.sources.Source.{Pair, SourceState, GivesTold, results_of, names_of, times, first_answer}
-use Rattle.sum_sources.specs.sources.Source.{answer_of_first}
+use Rattle.sum_sources.specs.sources.Source.{Pair, SourceState, GivesTold, results_of, names_of, times, first_answer, answer_of_first}
 
 -- a pair that doesn't fit changes no answer
 first_append : (ps : List Pair) (p : Pair) (name : List ℕ) (k : ℕ) → (bytes_eq p.name name && nat_le p.from k) ≡ false

@@ -1,21 +1,13 @@
 -- `WithStdin`: what an opening and a closing keep.
-use Rattle.std.proofs.Common.{◌≡◌, ℕ, true, false, List, [], ◌∷◌, ◌++◌, length, append-nil, Option, None, Some, Result}
-use Rattle.std.proofs.Common.{Ok, IfSome, refl, ap, sym, ◌∙◌, codes, bytes_eq, arith}
+use Rattle.std.proofs.Common.{◌≡◌, ℕ, true, false, List, [], ◌∷◌, ◌++◌, length, append-nil, Option, None, Some, Result, Ok, IfSome, refl, ap, sym, ◌∙◌, codes, bytes_eq, arith}
 use Rattle.std.proofs.lemmas.{List.Elements.filter-append, Slice.Eq.bytes_eq-Decides}
-use Rattle.std.specs.Option.{option_and_then, option_map}
-use Rattle.std.specs.{Prelude.◌==◌, Prelude.not, Prelude.if◌then◌else◌, Prelude.slice_get, Result.result_ok}
-use Rattle.sum_sources.proofs.GaveLemmas.{same_name, none_agrees, of_content, gives-more, gives-closed, gave-times}
-use Rattle.sum_sources.proofs.GaveLemmas.{gave-append, gave-opening, gave-closing}
-use Rattle.sum_sources.specs.Fault.{Fault, Whole}
-use Rattle.sum_sources.specs.declared.inputs.stdin.Closable.{Closable, TheVariants.Closed}
-use Rattle.sum_sources.specs.inputs.Input.{Content, InputState, Reads, HasContent, empty_reads, empty_content}
-use Rattle.sum_sources.specs.inputs.{Input.Unfinished, Stdin.is_untaken, Stdin.StdinPlace, Stdin.GivesUnread}
-use Rattle.sum_sources.specs.inputs.Stdin.{given_input, closable_state, stdin_after_taking, stdin_after_put_back}
-use Rattle.sum_sources.specs.sources.Source.{AnswerValue, Opening, SourceState, ToldAnswers, names_of, times}
-use Rattle.sum_sources.specs.sources.Source.{results_of, openings_after_closing, opened_file, IsOpen, FitsAnswer}
-use Rattle.sum_sources.specs.sources.{SourceLaws.results-both, WithStdin.is_dash}
-use Rattle.sum_sources.specs.sources.WithStdin.{first_or_later, answer_of_both, with_stdin_state, state_without_dash}
-use Rattle.sum_sources.specs.sources.WithStdin.{other_openings, IsPlaceOf, GivesStdin, IsSoundWithStdin}
+use Rattle.std.specs.{Option.option_and_then, Option.option_map, Prelude.◌==◌, Prelude.not, Prelude.if◌then◌else◌, Prelude.slice_get, Result.result_ok}
+use Rattle.sum_sources.specs.sources.Source.{AnswerValue, Opening, SourceState, ToldAnswers, names_of, times, results_of, openings_after_closing, opened_file, IsOpen, FitsAnswer}
+use Rattle.sum_sources.proofs.GaveLemmas.{same_name, none_agrees, of_content, gives-more, gives-closed, gave-times, gave-append, gave-opening, gave-closing}
+use Rattle.sum_sources.specs.sources.WithStdin.{is_dash, first_or_later, answer_of_both, with_stdin_state, state_without_dash, other_openings, IsPlaceOf, GivesStdin, IsSoundWithStdin}
+use Rattle.sum_sources.specs.inputs.Input.{Content, InputState, Reads, HasContent, empty_reads, empty_content, Unfinished}
+use Rattle.sum_sources.specs.inputs.Stdin.{is_untaken, StdinPlace, GivesUnread, given_input, closable_state, stdin_after_taking, stdin_after_put_back}
+use Rattle.sum_sources.specs.{Fault.Fault, Fault.Whole, declared.inputs.stdin.Closable.Closable, declared.inputs.stdin.Closable.TheVariants.Closed, sources.SourceLaws.results-both}
 
 -- names that differ also differ the other way round
 turned : (a b : List ℕ) → bytes_eq a b ≡ false → bytes_eq b a ≡ false

@@ -1,11 +1,8 @@
 -- The faults of opening and reading: which fault an error of the system is, and its text. How an input ends.
-use Rattle.std.specs.Ordering.{int_eq}
-use Rattle.std.specs.Prelude.{ℤ, pos, List, [], ◌∷◌, Option, None, Some, map, codes, length, slice_index_or, ◌==◌}
-use Rattle.std.specs.{Prelude.if◌then◌else◌, declared.io.ErrorKind.ErrorKind}
+use Rattle.std.specs.Prelude.{ℤ, pos, List, [], ◌∷◌, Option, None, Some, map, codes, length, slice_index_or, ◌==◌, if◌then◌else◌}
+use Rattle.std.specs.{Ordering.int_eq, declared.io.ErrorKind.ErrorKind}
 use Rattle.digest_kinds.specs.Bytes.{ByteString}
-pub use Rattle.sum_sources.specs.declared.fault.Ending.{Ending, TheVariants.Whole, TheVariants.Broken}
-pub use Rattle.sum_sources.specs.declared.fault.Fault.{Fault}
-pub use Rattle.sum_sources.specs.declared.fault.Fault.TheVariants.{NotFound, Denied, Other, Os}
+pub use Rattle.sum_sources.specs.declared.fault.{Ending.Ending, Ending.TheVariants.Whole, Ending.TheVariants.Broken, Fault.Fault, Fault.TheVariants.NotFound, Fault.TheVariants.Denied, Fault.TheVariants.Other, Fault.TheVariants.Os}
 use Rattle.std.specs.declared.io.ErrorKind.TheVariants as kinds
 
 -- the C library's texts of the numbers of Linux, from 0 on. A line ends with the number whose text is its first. A text

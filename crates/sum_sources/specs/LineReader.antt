@@ -1,15 +1,11 @@
 -- The state of a reader of lines, and what a call changes in it.
-use Rattle.std.specs.Prelude.{ℕ, ◌≡◌, ◌+◌, ◌-◌, ◌<◌, ◌≤◌, ◌⊎◌, [], ◌∷◌, ◌++◌, length, take, drop, Bool, true, false}
-use Rattle.std.specs.Prelude.{Option, None, Some, Result, Ok, Err}
+use Rattle.std.specs.Prelude.{ℕ, ◌≡◌, ◌+◌, ◌-◌, ◌<◌, ◌≤◌, ◌⊎◌, [], ◌∷◌, ◌++◌, length, take, drop, Bool, true, false, Option, None, Some, Result, Ok, Err}
 use Rattle.std.specs.Str.{byte}
 use Rattle.digest_kinds.specs.Bytes.{ByteString, LIMIT}
-use Rattle.sum_sources.specs.Fault.{Fault, Whole}
+use Rattle.sum_sources.specs.declared.line_reader.ReaderState.{ReaderState, TheVariants.Active, TheVariants.Done, TheVariants.Stopped}
+use Rattle.sum_sources.specs.inputs.Input.{Unfinished, Ended, Past, Content, InputState, Reads, Fits, IsSameInput, clip, reads_past}
 use Rattle.sum_sources.specs.ManifestLines.{Next, Line, NoMore, LineStop, HasNoNewline, IsNextLine, lines_after}
-use Rattle.sum_sources.specs.declared.inputs.input.TheConstants.{PIECE}
-use Rattle.sum_sources.specs.declared.line_reader.{LineReader.TheInside.Inside, ReaderState.ReaderState}
-use Rattle.sum_sources.specs.declared.line_reader.ReaderState.TheVariants.{Active, Done, Stopped}
-use Rattle.sum_sources.specs.inputs.Input.{Unfinished, Ended, Past, Content, InputState, Reads, Fits, IsSameInput, clip}
-use Rattle.sum_sources.specs.inputs.Input.{reads_past}
+use Rattle.sum_sources.specs.{declared.inputs.input.TheConstants.PIECE, Fault.Fault, Fault.Whole, declared.line_reader.LineReader.TheInside.Inside}
 use Rattle.sum_sources.specs.declared.line_reader.LineStop.TheVariants as stops
 
 -- a reader of lines

@@ -1,11 +1,9 @@
 -- The lines of a manifest.
-use Rattle.std.specs.{Char.is_newline, List.slice_split, List.after_first}
-use Rattle.std.specs.Prelude.{ℕ, zero, suc, ◌≡◌, ◌+◌, ◌-◌, ◌<◌, false, List, [], ◌∷◌, ◌++◌, map, take, length, All}
-use Rattle.std.specs.{Prelude.slice_index_or, Prelude.Result, Prelude.Ok, Prelude.Err, Str.Lines.strip_carriage_return}
+use Rattle.std.specs.Prelude.{ℕ, zero, suc, ◌≡◌, ◌+◌, ◌-◌, ◌<◌, false, List, [], ◌∷◌, ◌++◌, map, take, length, All, slice_index_or, Result, Ok, Err}
+use Rattle.std.specs.{List.slice_split, List.after_first, Char.is_newline, Str.Lines.strip_carriage_return}
 use Rattle.digest_kinds.specs.Bytes.{ByteString}
 use Rattle.sum_sources.specs.{Fault.Ending, Fault.Whole, Fault.Broken, inputs.Input.Content, inputs.Input.empty_content}
-pub use Rattle.sum_sources.specs.declared.line_reader.{LineStop.LineStop, Next.Next}
-pub use Rattle.sum_sources.specs.declared.line_reader.Next.TheVariants.{Line, NoMore}
+pub use Rattle.sum_sources.specs.declared.line_reader.{LineStop.LineStop, Next.Next, Next.TheVariants.Line, Next.TheVariants.NoMore}
 use Rattle.sum_sources.specs.declared.line_reader.LineStop.TheVariants as stops
 
 -- the line of the last piece, which no newline ended: it is one if it isn't empty and the content ends whole

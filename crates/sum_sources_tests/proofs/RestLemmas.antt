@@ -1,15 +1,10 @@
 -- An input of which the first three bytes, its header, don't count.
-use Rattle.std.proofs.Common.{◌≡◌, ◌∷◌, ◌-◌, ◌≤◌, ℕ, [], List, length, drop, take, None, Ok, Err, Result, refl, ap, ◌∙◌}
-use Rattle.std.proofs.{Common.arith, Math.Seq.take-append_seam, Math.Seq.take-length, lemmas.List.drop-append-le}
-use Rattle.std.specs.Prelude.{IfOk}
+use Rattle.std.proofs.Common.{◌≡◌, ◌∷◌, ◌-◌, ◌≤◌, ℕ, [], List, length, drop, take, None, Ok, Err, Result, refl, ap, ◌∙◌, arith}
+use Rattle.std.{proofs.Math.Seq.take-append_seam, proofs.Math.Seq.take-length, proofs.lemmas.List.drop-append-le, specs.Prelude.IfOk}
 use Rattle.digest_kinds.specs.{Bytes.ByteString, Kind.digest, Kind.KindValue}
-use Rattle.sum_sources.specs.LineReader.{remaining_content, AdvancesLines, IsReading, LineReaderValue, ReadsOn}
-use Rattle.sum_sources.specs.{LineReader.content_past, ManifestLines.lines}
-use Rattle.sum_sources.specs.declared.{fault.Ending.TheVariants.Whole, fault.Fault.Fault, inputs.input.Phase.Phase}
-use Rattle.sum_sources.specs.declared.inputs.input.Phase.TheVariants.{Unfinished, Ended, Past}
-use Rattle.sum_sources.specs.declared.line_reader.Next.TheVariants.{Line}
-use Rattle.sum_sources.specs.inputs.{HashInput.HashesInput, Input.Content}
-use Rattle.sum_sources.specs.inputs.Input.{InputState, Reads, Fits, state_after_read, clip, reads_past, empty_reads}
+use Rattle.sum_sources.specs.{LineReader.remaining_content, LineReader.AdvancesLines, LineReader.IsReading, LineReader.LineReaderValue, LineReader.ReadsOn, LineReader.content_past, ManifestLines.lines, declared.fault.Ending.TheVariants.Whole}
+use Rattle.sum_sources.specs.declared.{fault.Fault.Fault, inputs.input.Phase.Phase, inputs.input.Phase.TheVariants.Unfinished, inputs.input.Phase.TheVariants.Ended, inputs.input.Phase.TheVariants.Past, line_reader.Next.TheVariants.Line}
+use Rattle.sum_sources.specs.inputs.{HashInput.HashesInput, Input.Content, Input.InputState, Input.Reads, Input.Fits, Input.state_after_read, Input.clip, Input.reads_past, Input.empty_reads}
 
 -- if reads fit a content, those past the first bytes fit its rest
 rest_fits : (m : ℕ) (r : Reads) (c : Content) → m ≤ length r.bytes → Fits r c → Fits (reads_past m r) (content_past m c)

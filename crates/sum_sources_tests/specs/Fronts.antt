@@ -1,9 +1,7 @@
 -- A source that computes its answers: each file holds the front of one text that is as long as the file's name.
-use Rattle.std.specs.Option.{option_map}
-use Rattle.std.specs.Prelude.{length, take, List, [], ◌∷◌, None, Some, Ok, Err}
+use Rattle.std.specs.{Option.option_map, Prelude.length, Prelude.take, Prelude.List, Prelude.[], Prelude.◌∷◌, Prelude.None, Prelude.Some, Prelude.Ok, Prelude.Err}
 use Rattle.digest_kinds.specs.Bytes.{ByteString}
-use Rattle.sum_sources.specs.{declared.fault.Ending.TheVariants.Whole, inputs.Input.Content}
-use Rattle.sum_sources.specs.sources.Source.{AnswerValue, Pair, SourceState, ToldAnswers}
+use Rattle.sum_sources.specs.{declared.fault.Ending.TheVariants.Whole, inputs.Input.Content, sources.Source.AnswerValue, sources.Source.Pair, sources.Source.SourceState, sources.Source.ToldAnswers}
 
 -- a content that ends whole
 abbrev pub whole : ByteString → Content

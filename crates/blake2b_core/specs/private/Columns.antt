@@ -1,10 +1,7 @@
 -- How the code mixes: four columns at once. Its working vector is four rows of four words.
-use Rattle.std.specs.List.{range_with_len}
-use Rattle.std.specs.Prelude.{ℕ, ◌+◌, ◌/◌, ◌%◌, List, [], map, fold, slice_index_or}
-use Rattle.std.specs.Simd.{first_chunks}
+use Rattle.std.specs.{List.range_with_len, Prelude.ℕ, Prelude.◌+◌, Prelude.◌/◌, Prelude.◌%◌, Prelude.List, Prelude.[], Prelude.map, Prelude.fold, Prelude.slice_index_or, Simd.first_chunks}
 use Rattle.byteorder.specs.Endian.{little_number}
-use Rattle.blake2b_core.specs.Bytes.{ByteString}
-use Rattle.blake2b_core.specs.Compression.{◌!◌, ◌⊻◌, sigma, mix}
+use Rattle.blake2b_core.specs.{Bytes.ByteString, Compression.◌!◌, Compression.◌⊻◌, Compression.sigma, Compression.mix}
 
 -- row n of the vector
 abbrev pub row : List (List ℕ) → ℕ → List ℕ

@@ -1,8 +1,7 @@
 -- Relates a job to what it does with an operand.
 use Rattle.std.specs.Prelude.{ℕ, List, [], ◌∷◌}
 use Rattle.digest_kinds.specs.Bytes.{ByteString}
-use Rattle.sum_engine.specs.Behavior.{World, Behavior}
-use Rattle.sum_engine.specs.{Generate.generate_behavior, Streams.none_or_one, check.CheckOne.check_behavior}
+use Rattle.sum_engine.specs.{Behavior.World, Behavior.Behavior, Generate.generate_behavior, Streams.none_or_one, check.CheckOne.check_behavior}
 use Rattle.digests.specs.declared.tool_run.Job.{Job, TheVariants.Generate, TheVariants.Check}
 
 -- the behavior of one operand of a job

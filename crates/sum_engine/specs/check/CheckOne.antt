@@ -2,15 +2,11 @@
 use Rattle.std.specs.Prelude.{ℕ, ◌≡◌, ◌+◌, ◌≤◌, true, false, List, [], ◌∷◌, ◌++◌, length, Some, Ok, Err, ⊤}
 use Rattle.sum_settings.specs.declared.{settings.CheckSettings.CheckSettings, stop.Stop.Stop}
 use Rattle.digest_kinds.specs.Bytes.{ByteString}
-use Rattle.sum_sources.specs.{ManifestLines.past_line, declared.inputs.input.TheConstants.PIECE}
-use Rattle.sum_sources.specs.inputs.Input.{Content, Reads, clip}
-use Rattle.sum_sources.specs.sources.{Source.AnswerValue, Source.result_at, Source.times, WithStdin.is_dash}
+use Rattle.sum_sources.specs.sources.Source.{AnswerValue, result_at, times}
+use Rattle.sum_sources.specs.{declared.inputs.input.TheConstants.PIECE, ManifestLines.past_line, inputs.Input.Content, inputs.Input.Reads, inputs.Input.clip, sources.WithStdin.is_dash}
 use Rattle.sum_engine.specs.Behavior.{World, answer_to, world_after, Step, Behavior, behavior_then, single_step, trace}
-use Rattle.sum_engine.specs.Execution.{Agrees, world_at, opened_names, Happened, PerformsSteps}
-use Rattle.sum_engine.specs.{Streams.StreamsState, ToolLines.name_fault_line, check.Counts.counts_of, check.Counts.good}
-use Rattle.sum_engine.specs.check.Judge.{LineVerdictValue, asks_of, all_verdicts}
-use Rattle.sum_engine.specs.check.{Report.out_of, Report.err_of, Rules.LabelsValue, Rules.rules_of, Rules.labels_of}
-use Rattle.sum_engine.specs.check.{Rules.CheckRules, Summary.end_text}
+use Rattle.sum_engine.specs.{Execution.Agrees, Execution.world_at, Execution.opened_names, Execution.Happened, Execution.PerformsSteps, Streams.StreamsState, ToolLines.name_fault_line}
+use Rattle.sum_engine.specs.check.{Counts.counts_of, Counts.good, Judge.LineVerdictValue, Judge.asks_of, Judge.all_verdicts, Report.out_of, Report.err_of, Rules.LabelsValue, Rules.rules_of, Rules.labels_of, Rules.CheckRules, Summary.end_text}
 
 -- the steps of a content: one for each line, by these verdicts, and one for the end, which has this text
 abbrev pub line_steps : CheckRules → LabelsValue → ByteString → Content → List LineVerdictValue → List Step

@@ -1,20 +1,12 @@
 -- A checker, and what its next step does.
-use Rattle.std.specs.Prelude.{◌≡◌, ◌+◌, ◌<◌, ◌≤◌, ◌⊎◌, Bool, true, false, List, [], ◌∷◌, length, Option, None, Some}
-use Rattle.std.specs.Prelude.{Result, Ok, Err}
+use Rattle.std.specs.Prelude.{◌≡◌, ◌+◌, ◌<◌, ◌≤◌, ◌⊎◌, Bool, true, false, List, [], ◌∷◌, length, Option, None, Some, Result, Ok, Err}
 use Rattle.digest_kinds.specs.Bytes.{ByteString}
 use Rattle.sum_settings.specs.declared.stop.Stop.{Stop}
-use Rattle.sum_sources.specs.declared.fault.Ending.TheVariants.{Whole, Broken}
-use Rattle.sum_sources.specs.declared.inputs.input.TheConstants.{PIECE}
+use Rattle.sum_sources.specs.{declared.inputs.input.TheConstants.PIECE, declared.fault.Ending.TheVariants.Whole, declared.fault.Ending.TheVariants.Broken, inputs.Input.InputState}
 use Rattle.sum_sources.specs.declared.line_reader.LineStop.TheVariants.{Fault, Memory}
-use Rattle.sum_sources.specs.inputs.Input.{InputState}
-use Rattle.sum_engine.specs.Behavior.{Step, Behavior}
-use Rattle.sum_engine.specs.Execution.{PerformsSteps, ReadsToEndIf, RefusesMemory}
-use Rattle.sum_engine.specs.Streams.{BothOutputs, StreamsState, StopHasCause, none_or_one, WritesAndReturns}
-use Rattle.sum_engine.specs.check.CheckOne.{line_steps, remaining_before}
-use Rattle.sum_engine.specs.check.{Counts.counts_of, Counts.counts_then, Counts.good, Judge.line_verdict_value}
-use Rattle.sum_engine.specs.check.{Report.out_of, Report.err_of, Rules.LabelsValue, Rules.CheckRules, Summary.end_text}
-use Rattle.sum_engine.specs.check.Verdicts.{VerdictsValue, CheckState, HandlesLine, HoldsInEachCheck, VerdictResult}
-use Rattle.sum_engine.specs.check.Verdicts.{AdvancesVerdicts, remaining_verdicts}
+use Rattle.sum_engine.specs.{Behavior.Step, Behavior.Behavior, Execution.PerformsSteps, Execution.ReadsToEndIf, Execution.RefusesMemory, Streams.BothOutputs, Streams.StreamsState, Streams.StopHasCause, Streams.none_or_one, Streams.WritesAndReturns}
+use Rattle.sum_engine.specs.check.{CheckOne.line_steps, CheckOne.remaining_before, Counts.counts_of, Counts.counts_then, Counts.good, Judge.line_verdict_value, Report.out_of, Report.err_of, Rules.LabelsValue, Rules.CheckRules, Summary.end_text}
+use Rattle.sum_engine.specs.check.Verdicts.{VerdictsValue, CheckState, HandlesLine, HoldsInEachCheck, VerdictResult, AdvancesVerdicts, remaining_verdicts}
 pub use Rattle.sum_engine.specs.declared.check.progress.Progress.{Progress, TheVariants.Going, TheVariants.Ended}
 use Rattle.sum_settings.specs.declared.stop.Stop.TheVariants as stops
 

@@ -1,8 +1,7 @@
 -- How many lines of a manifest have each verdict, and whether a manifest is good.
 use Rattle.std.specs.Prelude.{ℕ, ◌+◌, ◌==◌, ◌&&◌, ◌||◌, Bool, false, not, List, [], ◌∷◌}
 use Rattle.sum_sources.specs.declared.fault.Ending.{Ending, TheVariants.Whole, TheVariants.Broken}
-use Rattle.sum_engine.specs.check.Judge.{Verdict, Ignored, Bad, Right, Wrong, Missing, Unread, LineVerdictValue}
-use Rattle.sum_engine.specs.check.Rules.{CheckRules}
+use Rattle.sum_engine.specs.check.{Judge.Verdict, Judge.Ignored, Judge.Bad, Judge.Right, Judge.Wrong, Judge.Missing, Judge.Unread, Judge.LineVerdictValue, Rules.CheckRules}
 pub use Rattle.sum_engine.specs.declared.check.counts.Counts.{Counts}
 
 -- the counts and one more line, which has this verdict

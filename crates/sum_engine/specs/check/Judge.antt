@@ -1,14 +1,9 @@
 -- The verdict of a line, and those of a manifest's lines.
-use Rattle.std.specs.Prelude.{ℕ, ◌+◌, ◌≤◌, ◌&&◌, Bool, true, false, List, [], ◌∷◌, length, Result, Ok, Err}
-use Rattle.std.specs.Prelude.{if◌then◌else◌, bytes_eq, slice_range, map}
+use Rattle.std.specs.Prelude.{ℕ, ◌+◌, ◌≤◌, ◌&&◌, Bool, true, false, List, [], ◌∷◌, length, Result, Ok, Err, if◌then◌else◌, bytes_eq, slice_range, map}
 use Rattle.digest_kinds.specs.{Bytes.ByteString, declared.algo.Algos.Algos}
-use Rattle.sum_lines.specs.grammar.{Entries.EntryValue, Form.form}
-use Rattle.sum_lines.specs.grammar.ParsedLines.{ParsedLine, ignored, bad, entry, parse_line}
-use Rattle.sum_sources.specs.ManifestLines.{lines}
-use Rattle.sum_sources.specs.declared.fault.Fault.{Fault, TheVariants.NotFound}
-use Rattle.sum_sources.specs.{inputs.Input.Content, sources.Source.AnswerValue, sources.WithStdin.is_dash}
-use Rattle.sum_engine.specs.Behavior.{World, answer_to, world_after, digest_or_fault}
-use Rattle.sum_engine.specs.check.Rules.{CheckRules}
+use Rattle.sum_lines.specs.grammar.{Entries.EntryValue, Form.form, ParsedLines.ParsedLine, ParsedLines.ignored, ParsedLines.bad, ParsedLines.entry, ParsedLines.parse_line}
+use Rattle.sum_sources.specs.{ManifestLines.lines, declared.fault.Fault.Fault, declared.fault.Fault.TheVariants.NotFound, inputs.Input.Content, sources.Source.AnswerValue, sources.WithStdin.is_dash}
+use Rattle.sum_engine.specs.{Behavior.World, Behavior.answer_to, Behavior.world_after, Behavior.digest_or_fault, check.Rules.CheckRules}
 pub use Rattle.sum_engine.specs.declared.check.judge.{LineVerdict.LineVerdict, Verdict.Verdict}
 pub use Rattle.sum_engine.specs.declared.check.judge.Verdict.TheVariants.{Ignored, Bad, Right, Wrong, Missing, Unread}
 

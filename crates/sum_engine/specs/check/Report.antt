@@ -1,13 +1,9 @@
 -- What checking writes about a line.
-use Rattle.std.specs.List.{concat}
-use Rattle.std.specs.Prelude.{ℕ, [], ◌∷◌, decimal, codes}
-use Rattle.digest_kinds.specs.{Algo.tag, Bytes.ByteString}
-use Rattle.digest_kinds.specs.declared.algo.Algos.{Algos, TheVariants.One, TheVariants.Any}
+use Rattle.std.specs.{List.concat, Prelude.ℕ, Prelude.[], Prelude.◌∷◌, Prelude.decimal, Prelude.codes}
+use Rattle.digest_kinds.specs.{Algo.tag, Bytes.ByteString, declared.algo.Algos.Algos, declared.algo.Algos.TheVariants.One, declared.algo.Algos.TheVariants.Any}
 use Rattle.sum_lines.specs.{Escape.escape, Escape.escape_differs, grammar.Shapes.mark}
 use Rattle.sum_settings.specs.declared.settings.Report.{Report, TheVariants.Quiet, TheVariants.Warn, TheVariants.Status}
-use Rattle.sum_engine.specs.ToolLines.{name_fault_line}
-use Rattle.sum_engine.specs.check.Judge.{Verdict, Bad, Right, Wrong, Unread, LineVerdictValue}
-use Rattle.sum_engine.specs.check.Rules.{LabelsValue, CheckRules}
+use Rattle.sum_engine.specs.{ToolLines.name_fault_line, check.Judge.Verdict, check.Judge.Bad, check.Judge.Right, check.Judge.Wrong, check.Judge.Unread, check.Judge.LineVerdictValue, check.Rules.LabelsValue, check.Rules.CheckRules}
 
 -- NAME: TEXT, after a backslash if the name's escape differs from it
 abbrev pub name_line : ByteString → ByteString → ByteString

@@ -1,11 +1,9 @@
 -- What checking writes at the end of a manifest.
-use Rattle.std.specs.List.{concat}
-use Rattle.std.specs.Prelude.{ℕ, ◌==◌, ◌&&◌, [], ◌∷◌, ◌++◌, decimal, codes, if◌then◌else◌}
+use Rattle.std.specs.{List.concat, Prelude.ℕ, Prelude.◌==◌, Prelude.◌&&◌, Prelude.[], Prelude.◌∷◌, Prelude.◌++◌, Prelude.decimal, Prelude.codes, Prelude.if◌then◌else◌}
 use Rattle.sum_settings.specs.declared.settings.Report.{Report, TheVariants.Status}
 use Rattle.digest_kinds.specs.Bytes.{ByteString}
 use Rattle.sum_sources.specs.declared.fault.Ending.{Ending, TheVariants.Whole, TheVariants.Broken}
-use Rattle.sum_engine.specs.ToolLines.{tool_line, name_fault_line}
-use Rattle.sum_engine.specs.check.{Counts.Counts, Counts.entries, Rules.LabelsValue, Rules.CheckRules}
+use Rattle.sum_engine.specs.{ToolLines.tool_line, ToolLines.name_fault_line, check.Counts.Counts, check.Counts.entries, check.Rules.LabelsValue, check.Rules.CheckRules}
 
 -- TOOL: WARNING: N TEXT, unless the count is 0
 abbrev pub warning : ByteString → ℕ → ByteString → ByteString → ByteString

@@ -1,22 +1,13 @@
 -- The verdicts of a manifest, one call after another; no text is written.
-use Rattle.std.specs.Prelude.{ℕ, ◌≡◌, ◌+◌, ◌≤◌, ◌<◌, ◌⊎◌, Bool, true, false, List, [], ◌∷◌, length, ⊤, Option, None}
-use Rattle.std.specs.Prelude.{Some, IfSome, Result, Ok, Err, map}
+use Rattle.std.specs.Prelude.{ℕ, ◌≡◌, ◌+◌, ◌≤◌, ◌<◌, ◌⊎◌, Bool, true, false, List, [], ◌∷◌, length, ⊤, Option, None, Some, IfSome, Result, Ok, Err, map}
 use Rattle.digest_kinds.specs.Bytes.{ByteString}
-use Rattle.sum_lines.specs.declared.reading.read_line.Form.{Form, TheVariants.Undecided}
-use Rattle.sum_lines.specs.grammar.{Form.form, Form.form_then, Form.line_form, ParsedLines.parse_line}
-use Rattle.sum_sources.specs.LineReader.{AdvancesLines, IsBounded, IsReading, consumed_count, reads_of}
-use Rattle.sum_sources.specs.{LineReader.remaining_content, ManifestLines.past_line, ManifestLines.lines}
-use Rattle.sum_sources.specs.declared.fault.Ending.{Ending, TheVariants.Whole, TheVariants.Broken}
-use Rattle.sum_sources.specs.declared.inputs.input.{Phase.TheVariants.Unfinished, TheConstants.PIECE}
-use Rattle.sum_sources.specs.declared.line_reader.{LineReader.LineReader, LineStop.LineStop, LineStop.TheVariants.Fault}
-use Rattle.sum_sources.specs.declared.line_reader.{LineStop.TheVariants.Memory, Next.Next, Next.TheVariants.NoMore}
-use Rattle.sum_sources.specs.inputs.Input.{Content, Fits, InputState}
-use Rattle.sum_sources.specs.sources.Source.{SourceState}
-use Rattle.sum_engine.specs.Behavior.{World}
-use Rattle.sum_engine.specs.Execution.{Agrees, world_at, ReadsToEndIf, AsksNames, RefusesMemory}
-use Rattle.sum_engine.specs.check.Counts.{Counts, counts_of, counts_and_line}
-use Rattle.sum_engine.specs.check.Judge.{LineVerdict, LineVerdictValue, line_verdict_value, is_unread, asks_of}
-use Rattle.sum_engine.specs.check.{Judge.line_verdict, Judge.verdicts, Rules.CheckRules}
+use Rattle.sum_lines.specs.{declared.reading.read_line.Form.Form, declared.reading.read_line.Form.TheVariants.Undecided, grammar.Form.form, grammar.Form.form_then, grammar.Form.line_form, grammar.ParsedLines.parse_line}
+use Rattle.sum_sources.specs.{LineReader.AdvancesLines, LineReader.IsBounded, LineReader.IsReading, LineReader.consumed_count, LineReader.reads_of, LineReader.remaining_content, ManifestLines.past_line, ManifestLines.lines}
+use Rattle.sum_sources.specs.declared.{fault.Ending.Ending, fault.Ending.TheVariants.Whole, fault.Ending.TheVariants.Broken, inputs.input.Phase.TheVariants.Unfinished, inputs.input.TheConstants.PIECE}
+use Rattle.sum_sources.specs.declared.line_reader.{LineReader.LineReader, LineStop.LineStop, LineStop.TheVariants.Fault, LineStop.TheVariants.Memory, Next.Next, Next.TheVariants.NoMore}
+use Rattle.sum_sources.specs.{inputs.Input.Content, inputs.Input.Fits, inputs.Input.InputState, sources.Source.SourceState}
+use Rattle.sum_engine.specs.{Behavior.World, Execution.Agrees, Execution.world_at, Execution.ReadsToEndIf, Execution.AsksNames, Execution.RefusesMemory}
+use Rattle.sum_engine.specs.check.{Counts.Counts, Counts.counts_of, Counts.counts_and_line, Judge.LineVerdict, Judge.LineVerdictValue, Judge.line_verdict_value, Judge.is_unread, Judge.asks_of, Judge.line_verdict, Judge.verdicts, Rules.CheckRules}
 
 -- the verdicts of a manifest
 pub record VerdictsValue (I : Type 0) : Type 0 where

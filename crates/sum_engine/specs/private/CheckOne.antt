@@ -1,13 +1,9 @@
 -- Relates a whole run of a checker to the manifest's behavior.
 use Rattle.std.specs.Prelude.{◌≡◌, Bool, true, length, Result, Ok, IfErr}
 use Rattle.sum_settings.specs.declared.stop.Stop.{Stop}
-use Rattle.sum_sources.specs.declared.inputs.input.Phase.TheVariants.{Unfinished}
-use Rattle.sum_sources.specs.inputs.Input.{Content, InputState, Fits, IsSameInput, clip, reads_past}
-use Rattle.sum_engine.specs.Behavior.{World}
+use Rattle.sum_sources.specs.{declared.inputs.input.Phase.TheVariants.Unfinished, inputs.Input.Content, inputs.Input.InputState, inputs.Input.Fits, inputs.Input.IsSameInput, inputs.Input.clip, inputs.Input.reads_past}
 use Rattle.sum_engine.specs.Execution.{Agrees, world_at, IsAtEndIf, ReadsToEndIf, Performs}
-use Rattle.sum_engine.specs.Streams.{StreamsState, StopHasCause, none_or_one}
-use Rattle.sum_engine.specs.check.CheckOne.{content_behavior, StopsAtStep}
-use Rattle.sum_engine.specs.check.{Judge.all_verdicts, Rules.LabelsValue, Rules.CheckRules}
+use Rattle.sum_engine.specs.{Streams.StreamsState, Streams.StopHasCause, Streams.none_or_one, check.CheckOne.content_behavior, check.CheckOne.StopsAtStep, check.Rules.LabelsValue, check.Rules.CheckRules, Behavior.World, check.Judge.all_verdicts}
 
 -- a new checker ran to its end, returned this result, and left its input in the state `new`
 pub record RunsManifest (rules : CheckRules) (labels : LabelsValue) (old new : InputState) (before after : StreamsState)

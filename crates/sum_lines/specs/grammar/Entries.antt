@@ -1,9 +1,7 @@
 -- What the lines of a manifest say: a line is ignored, or it spells an entry.
-use Rattle.std.specs.Prelude.{ℕ, ◌≡◌, ◌<◌, ◌⊎◌, ◌==◌, Bool, true, [], ◌∷◌, IsTrue, if◌then◌else◌, All}
-use Rattle.std.specs.Str.{byte}
+use Rattle.std.specs.{Prelude.ℕ, Prelude.◌≡◌, Prelude.◌<◌, Prelude.◌⊎◌, Prelude.◌==◌, Prelude.Bool, Prelude.true, Prelude.[], Prelude.◌∷◌, Prelude.IsTrue, Prelude.if◌then◌else◌, Prelude.All, Str.byte}
 use Rattle.digest_kinds.specs.{Bytes.ByteString, Kind.KindValue, declared.algo.Algos.Algos}
-use Rattle.sum_lines.specs.grammar.Form.{Form, Undecided, Standard, Reversed, begins_standard}
-use Rattle.sum_lines.specs.grammar.Shapes.{IsPlain, IsTagged}
+use Rattle.sum_lines.specs.grammar.{Form.Form, Form.Undecided, Form.Standard, Form.Reversed, Form.begins_standard, Shapes.IsPlain, Shapes.IsTagged}
 
 -- whether a line is ignored: it is empty or begins with `#`
 abbrev pub is_ignored : ByteString → Bool

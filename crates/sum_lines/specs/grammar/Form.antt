@@ -1,11 +1,8 @@
 -- The form of a list of lines: its first plain line decides it.
-use Rattle.std.specs.Option.{option_map_or}
-use Rattle.std.specs.Prelude.{◌≡◌, ◌⊎◌, ◌==◌, ◌||◌, Bool, false, List, [], ◌∷◌, if◌then◌else◌}
-use Rattle.std.specs.Str.{byte}
+use Rattle.std.specs.{Option.option_map_or, Prelude.◌≡◌, Prelude.◌⊎◌, Prelude.◌==◌, Prelude.◌||◌, Prelude.Bool, Prelude.false, Prelude.List, Prelude.[], Prelude.◌∷◌, Prelude.if◌then◌else◌, Str.byte}
 use Rattle.digest_kinds.specs.{Bytes.ByteString, Kind.KindValue, declared.algo.Algos.Algos}
 use Rattle.sum_lines.specs.grammar.{LineParts.plain_parts, Shapes.IsPlain}
-pub use Rattle.sum_lines.specs.declared.reading.read_line.Form.{Form}
-pub use Rattle.sum_lines.specs.declared.reading.read_line.Form.TheVariants.{Undecided, Standard, Reversed}
+pub use Rattle.sum_lines.specs.declared.reading.read_line.Form.{Form, TheVariants.Undecided, TheVariants.Standard, TheVariants.Reversed}
 
 -- whether a plain line's tail is that of a Standard list: it begins with a space or a star, and more follows
 abbrev pub begins_standard : ByteString → Bool

@@ -1,15 +1,10 @@
 -- What the laws of the line grammar say, and what `read_line` promises by it.
-use Rattle.std.specs.Prelude.{◌≡◌, ◌≢◌, ◌<◌, ◌↔◌, ◌⊎◌, Bool, false, List, [], ◌∷◌, ◌++◌, length, codes, IsTrue, All}
-use Rattle.std.specs.Str.{byte}
+use Rattle.std.specs.{Prelude.◌≡◌, Prelude.◌≢◌, Prelude.◌<◌, Prelude.◌↔◌, Prelude.◌⊎◌, Prelude.Bool, Prelude.false, Prelude.List, Prelude.[], Prelude.◌∷◌, Prelude.◌++◌, Prelude.length, Prelude.codes, Prelude.IsTrue, Prelude.All, Str.byte}
 use Rattle.hex.specs.Hex.{IsBytes}
-use Rattle.digest_kinds.specs.{Algo.has_len, Bytes.ByteString, Kind.KindValue}
-use Rattle.digest_kinds.specs.declared.algo.{Algo.Algo, Algos.Algos, Algos.TheVariants.One, Algos.TheVariants.Any}
+use Rattle.digest_kinds.specs.{Algo.has_len, Bytes.ByteString, Kind.KindValue, declared.algo.Algo.Algo, declared.algo.Algos.Algos, declared.algo.Algos.TheVariants.One, declared.algo.Algos.TheVariants.Any}
 use Rattle.sum_settings.specs.declared.style.Mode.{Mode, TheVariants.Tag}
-use Rattle.sum_lines.specs.Escape.{escape}
-use Rattle.sum_lines.specs.grammar.Entries.{EntryValue, IsEntry, is_ignored}
-use Rattle.sum_lines.specs.grammar.Form.{Form, Undecided, Standard, IsForm, form}
-use Rattle.sum_lines.specs.grammar.ParsedLines.{ParsedLine, ignored, entry, parse_line}
-use Rattle.sum_lines.specs.{grammar.Shapes.IsPlain, grammar.Shapes.IsTagged, writing.DigestLine.line}
+use Rattle.sum_lines.specs.grammar.{Form.Form, Form.Undecided, Form.Standard, Form.IsForm, Form.form, ParsedLines.ParsedLine, ParsedLines.ignored, ParsedLines.entry, ParsedLines.parse_line, Entries.EntryValue, Entries.IsEntry, Entries.is_ignored}
+use Rattle.sum_lines.specs.{grammar.Shapes.IsPlain, grammar.Shapes.IsTagged, Escape.escape, writing.DigestLine.line}
 
 -- for given algorithms and a given form a line spells at most one entry
 abbrev pub HasOneEntry : Type 0

@@ -1,10 +1,8 @@
 -- The parts of a line of either shape, computed. By the law `parse_is_grammar` they need not be believed.
-use Rattle.std.specs.{List.starts_with, List.before_first, List.after_first, Option.option_or, Path.rsplit_once}
-use Rattle.std.specs.Prelude.{◌==◌, ◌&&◌, nat_lt, Bool, true, false, length, drop, codes, Option, None, Some, find}
-use Rattle.std.specs.{Prelude.if◌then◌else◌, Result.result_ok, Str.byte}
+use Rattle.std.specs.Prelude.{◌==◌, ◌&&◌, nat_lt, Bool, true, false, length, drop, codes, Option, None, Some, find, if◌then◌else◌}
+use Rattle.std.specs.{List.starts_with, List.before_first, List.after_first, Option.option_or, Path.rsplit_once, Result.result_ok, Str.byte}
 use Rattle.hex.specs.Hex.{decode_of}
-use Rattle.digest_kinds.specs.Algo.{all_algos, has_len, tag}
-use Rattle.digest_kinds.specs.{Bytes.ByteString, Bytes.◌>>=◌, Bytes.after_while, Kind.KindValue, KindText.kind_and_rest}
+use Rattle.digest_kinds.specs.{Algo.all_algos, Algo.has_len, Algo.tag, Bytes.ByteString, Bytes.◌>>=◌, Bytes.after_while, Kind.KindValue, KindText.kind_and_rest}
 use Rattle.digest_kinds.specs.declared.algo.{Algo.Algo, Algos.Algos, Algos.TheVariants.One, Algos.TheVariants.Any}
 use Rattle.sum_lines.specs.grammar.Shapes.{is_blank}
 

@@ -1,11 +1,9 @@
 -- The two shapes of a manifest's line, plain and tagged. A line has a shape if some parts, put together, are the line.
 -- Either shape may begin with blanks and then one backslash. The backslash says that the name is escaped.
-use Rattle.std.specs.List.{AllPass}
 use Rattle.std.specs.Prelude.{ℕ, ◌≡◌, ◌<◌, ◌==◌, ◌||◌, ⊤, Bool, [], ◌∷◌, ◌++◌, length, codes, IsTrue, Ok, if◌then◌else◌}
-use Rattle.std.specs.Str.{byte}
+use Rattle.std.specs.{List.AllPass, Str.byte}
 use Rattle.hex.specs.Hex.{decode_of}
-use Rattle.digest_kinds.specs.{Algo.has_len, Algo.tag, Bytes.ByteString, Kind.KindValue, KindText.IsWidth}
-use Rattle.digest_kinds.specs.declared.algo.{Algo.Algo, Algos.Algos, Algos.TheVariants.One, Algos.TheVariants.Any}
+use Rattle.digest_kinds.specs.{Algo.has_len, Algo.tag, Bytes.ByteString, Kind.KindValue, KindText.IsWidth, declared.algo.Algo.Algo, declared.algo.Algos.Algos, declared.algo.Algos.TheVariants.One, declared.algo.Algos.TheVariants.Any}
 
 -- whether a byte is a blank: a space or a tab
 abbrev pub is_blank : ℕ → Bool

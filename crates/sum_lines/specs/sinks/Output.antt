@@ -1,6 +1,5 @@
 -- What an output gets: a text, piece by piece.
-use Rattle.std.specs.Prelude.{ℕ, ◌≡◌, ◌<◌, ◌+◌, ◌/◌, ⊤, ◌⊎◌, List, [], ◌∷◌, ◌++◌, length, flat_map, filter_map, Option}
-use Rattle.std.specs.Prelude.{None, Some, Result, Ok, Err}
+use Rattle.std.specs.Prelude.{ℕ, ◌≡◌, ◌<◌, ◌+◌, ◌/◌, ⊤, ◌⊎◌, List, [], ◌∷◌, ◌++◌, length, flat_map, filter_map, Option, None, Some, Result, Ok, Err}
 use Rattle.std.specs.Simd.{first_chunks}
 use Rattle.digest_kinds.specs.Bytes.{ByteString}
 

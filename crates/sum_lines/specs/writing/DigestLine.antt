@@ -1,10 +1,8 @@
 -- The line that is written for a name and its digest.
-use Rattle.std.specs.List.{concat}
-use Rattle.std.specs.Prelude.{[], ◌∷◌, ◌++◌, codes, if◌then◌else◌}
+use Rattle.std.specs.{List.concat, Prelude.[], Prelude.◌∷◌, Prelude.◌++◌, Prelude.codes, Prelude.if◌then◌else◌}
 use Rattle.hex.specs.Hex.{encode_lower}
 use Rattle.digest_kinds.specs.{Bytes.ByteString, Kind.KindValue, KindText.kind_text}
-use Rattle.sum_settings.specs.declared.style.Mode.{Mode, TheVariants.Text, TheVariants.Binary, TheVariants.Tag}
-use Rattle.sum_settings.specs.declared.style.Style.{Style}
+use Rattle.sum_settings.specs.declared.style.{Mode.Mode, Mode.TheVariants.Text, Mode.TheVariants.Binary, Mode.TheVariants.Tag, Style.Style}
 use Rattle.sum_lines.specs.{Escape.escape, Escape.escape_differs, grammar.Shapes.mark}
 
 -- a line without its end and without the backslash that may begin it

@@ -1,11 +1,9 @@
 -- Inputs: their contents, what their reads gave, and which contents these reads fit.
-use Rattle.std.specs.Prelude.{ℕ, zero, suc, ◌≡◌, ◌-◌, ◌<◌, ◌≤◌, ◌^◌, [], ◌++◌, take, drop, length, Option, None, ⊤}
-use Rattle.std.specs.Prelude.{Result, Ok, Err, IfSome, MatchResult, if◌then◌else◌, nat_lt}
+use Rattle.std.specs.Prelude.{ℕ, zero, suc, ◌≡◌, ◌-◌, ◌<◌, ◌≤◌, ◌^◌, [], ◌++◌, take, drop, length, Option, None, ⊤, Result, Ok, Err, IfSome, MatchResult, if◌then◌else◌, nat_lt}
 use Rattle.std.specs.Result.{result_unwrap_or}
 use Rattle.digest_kinds.specs.Bytes.{ByteString}
 use Rattle.sum_sources.specs.Fault.{Fault, Other, Ending, Whole, Broken}
-pub use Rattle.sum_sources.specs.declared.inputs.input.Phase.{Phase}
-pub use Rattle.sum_sources.specs.declared.inputs.input.Phase.TheVariants.{Unfinished, Ended, Past}
+pub use Rattle.sum_sources.specs.declared.inputs.input.Phase.{Phase, TheVariants.Unfinished, TheVariants.Ended, TheVariants.Past}
 
 -- bytes, and how they end
 pub record Content : Type 0 where

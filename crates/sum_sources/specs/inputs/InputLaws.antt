@@ -1,13 +1,9 @@
 -- The law of inputs, with its proofs: what was read of an input fits a content, the one in memory if there is one.
-use Rattle.std.proofs.Common.{rules, ℕ, [], None, refl, drop}
-use Rattle.std.proofs.lemmas.List.{take-append-drop}
+use Rattle.std.proofs.{Common.rules, Common.ℕ, Common.[], Common.None, Common.refl, Common.drop, lemmas.List.take-append-drop}
 use Rattle.digest_kinds.specs.Bytes.{ByteString}
-use Rattle.sum_sources.specs.Fault.{Whole}
-use Rattle.sum_sources.specs.declared.inputs.stdin.Closable.{Closable, TheVariants.Open, TheVariants.Closed}
-use Rattle.sum_sources.specs.declared.sources.opened.Place.{Place, TheVariants.Stdin, TheVariants.File}
-use Rattle.sum_sources.specs.inputs.Input.{Content, InputState, HasContent, Fits, IsReadTo, told_reads, empty_content}
-use Rattle.sum_sources.specs.inputs.{Input.Phase, Input.Unfinished, Input.Ended, Input.Past, Stdin.closable_state}
-use Rattle.sum_sources.specs.{inputs.Told.ToldValue, inputs.Told.told_state, sources.Place.place_state}
+use Rattle.sum_sources.specs.declared.{inputs.stdin.Closable.Closable, sources.opened.Place.Place, inputs.stdin.Closable.TheVariants.Open, inputs.stdin.Closable.TheVariants.Closed, sources.opened.Place.TheVariants.Stdin}
+use Rattle.sum_sources.specs.{declared.sources.opened.Place.TheVariants.File, inputs.Told.ToldValue, inputs.Told.told_state, inputs.Stdin.closable_state, Fault.Whole, sources.Place.place_state}
+use Rattle.sum_sources.specs.inputs.Input.{Content, InputState, HasContent, Fits, IsReadTo, told_reads, empty_content, Phase, Unfinished, Ended, Past}
 
 -- what reads of a content gave fits it
 pub told_reads_fit : (content : Content) (n : ℕ) (phase : Phase) → Fits (told_reads content n phase) content

@@ -1,8 +1,7 @@
 -- Standard input: before, when and after it is taken.
 use Rattle.std.specs.Prelude.{Bool, true, false, not, ◌≡◌, [], Option, None, Some}
-use Rattle.sum_sources.specs.Fault.{Whole}
-use Rattle.sum_sources.specs.declared.inputs.stdin.Closable.{Closable, TheVariants.Open, TheVariants.Closed}
-use Rattle.sum_sources.specs.inputs.Input.{Unfinished, Content, InputState, empty_reads, told_reads}
+use Rattle.sum_sources.specs.{inputs.Input.Unfinished, inputs.Input.Content, inputs.Input.InputState, inputs.Input.empty_reads, inputs.Input.told_reads, Fault.Whole}
+use Rattle.sum_sources.specs.declared.inputs.stdin.Closable.{TheVariants.Open, TheVariants.Closed, Closable}
 
 -- the state of an input that may be closed. A closed one has no bytes, and the ending that it holds
 abbrev pub closable_state : {I : Type 0} → (I → InputState) → Closable I → InputState

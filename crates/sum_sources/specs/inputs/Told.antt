@@ -1,8 +1,7 @@
 -- Inputs in memory.
 use Rattle.std.specs.Prelude.{ℕ, Some}
 use Rattle.digest_kinds.specs.Bytes.{ByteString}
-use Rattle.sum_sources.specs.declared.inputs.told.Told.{Told}
-use Rattle.sum_sources.specs.inputs.Input.{Phase, Content, InputState, told_reads}
+use Rattle.sum_sources.specs.{declared.inputs.told.Told.Told, inputs.Input.Phase, inputs.Input.Content, inputs.Input.InputState, inputs.Input.told_reads}
 
 -- an input in memory
 pub record ToldValue : Type 0 where

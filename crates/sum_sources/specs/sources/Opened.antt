@@ -1,6 +1,5 @@
 -- What was opened beside standard input, by its fields.
-use Rattle.sum_sources.specs.declared.sources.opened.{Opened.Opened, Place.Place}
-use Rattle.sum_sources.specs.{inputs.Input.InputState, sources.Place.place_state}
+use Rattle.sum_sources.specs.{declared.sources.opened.Opened.Opened, declared.sources.opened.Place.Place, inputs.Input.InputState, sources.Place.place_state}
 
 -- what was opened: standard input, or a file
 abbrev pub place_in : {I F : Type 0} {i : _} {f : _} → Opened I F i f → Place I F

@@ -1,7 +1,6 @@
 -- What a `WithStdin` opened: standard input, or a file.
 use Rattle.std.specs.Prelude.{Bool, true, false}
-use Rattle.sum_sources.specs.declared.sources.opened.Place.{Place, TheVariants.Stdin, TheVariants.File}
-use Rattle.sum_sources.specs.inputs.{Input.InputState, Stdin.closable_state}
+use Rattle.sum_sources.specs.{declared.sources.opened.Place.Place, declared.sources.opened.Place.TheVariants.Stdin, declared.sources.opened.Place.TheVariants.File, inputs.Input.InputState, inputs.Stdin.closable_state}
 
 -- the state of what was opened
 abbrev pub place_state : {I F : Type 0} → (I → InputState) → (F → InputState) → Place I F → InputState

@@ -1,11 +1,8 @@
 -- Sources of files: which names one opened, and what it answered.
-use Rattle.std.specs.Option.{option_and_then, option_flatten}
-use Rattle.std.specs.Prelude.{ℕ, zero, suc, ◌≡◌, ◌+◌, ◌&&◌, List, [], ◌∷◌, ◌++◌, map, filter_map, count_by, slice_get}
-use Rattle.std.specs.Prelude.{bytes_eq, nat_le, Option, None, Some, Result, Ok, Err, IfSome, MatchResult, unwrap_or}
-use Rattle.std.specs.{Prelude.if◌then◌else◌, Result.result_ok}
+use Rattle.std.specs.Prelude.{ℕ, zero, suc, ◌≡◌, ◌+◌, ◌&&◌, List, [], ◌∷◌, ◌++◌, map, filter_map, count_by, slice_get, bytes_eq, nat_le, Option, None, Some, Result, Ok, Err, IfSome, MatchResult, unwrap_or, if◌then◌else◌}
+use Rattle.std.specs.{Option.option_and_then, Option.option_flatten, Result.result_ok}
 use Rattle.digest_kinds.specs.Bytes.{ByteString}
-use Rattle.sum_sources.specs.{Fault.Fault, Fault.NotFound, declared.sources.source.OpenFault.OpenFault}
-use Rattle.sum_sources.specs.inputs.Input.{Content, InputState, Reads, Fits, empty_reads}
+use Rattle.sum_sources.specs.{Fault.Fault, Fault.NotFound, declared.sources.source.OpenFault.OpenFault, inputs.Input.Content, inputs.Input.InputState, inputs.Input.Reads, inputs.Input.Fits, inputs.Input.empty_reads}
 use Rattle.sum_sources.specs.declared.sources.source.OpenFault.TheVariants as faults
 
 -- what opening a name gives: a content, or the fault of opening

@@ -1,7 +1,6 @@
 -- What a source in memory has stored.
 use Rattle.std.specs.Prelude.{List, map, Some, Ok, Err}
-use Rattle.sum_sources.specs.declared.sources.told_source.{Answer.Answer, StoredPair.StoredPair}
-use Rattle.sum_sources.specs.sources.Source.{AnswerValue, Pair, SourceState}
+use Rattle.sum_sources.specs.{declared.sources.told_source.Answer.Answer, declared.sources.told_source.StoredPair.StoredPair, sources.Source.AnswerValue, sources.Source.Pair, sources.Source.SourceState}
 use Rattle.sum_sources.specs.declared.sources.told_source.Answer.TheVariants as answers
 
 -- an answer, by its fields

@@ -1,14 +1,9 @@
 -- Standard input and a source of files, as one source.
-use Rattle.std.specs.Prelude.{ℕ, zero, suc, Bool, true, false, ◌≡◌, List, [], ◌∷◌, codes, bytes_eq, filter, not, Option}
-use Rattle.std.specs.Prelude.{None, Some, Result, Ok, IfSome, if◌then◌else◌, option_map}
+use Rattle.std.specs.Prelude.{ℕ, zero, suc, Bool, true, false, ◌≡◌, List, [], ◌∷◌, codes, bytes_eq, filter, not, Option, None, Some, Result, Ok, IfSome, if◌then◌else◌, option_map}
 use Rattle.digest_kinds.specs.Bytes.{ByteString}
-use Rattle.sum_sources.specs.Fault.{Fault}
-use Rattle.sum_sources.specs.inputs.Input.{Content, InputState, Reads, empty_content}
-use Rattle.sum_sources.specs.declared.sources.opened.Place.{Place, TheVariants.Stdin, TheVariants.File}
-use Rattle.sum_sources.specs.inputs.Stdin.{StdinPlace, closable_state, given_input, is_untaken, stdin_after_taking}
-use Rattle.sum_sources.specs.inputs.Stdin.{stdin_after_put_back}
-use Rattle.sum_sources.specs.sources.Source.{result_at, Answers, Pair, ToldAnswers, SourceState, Opening, FitsAnswer}
-use Rattle.sum_sources.specs.sources.Source.{results_of, state_after_closing}
+use Rattle.sum_sources.specs.{Fault.Fault, declared.sources.opened.Place.Place, declared.sources.opened.Place.TheVariants.Stdin, declared.sources.opened.Place.TheVariants.File}
+use Rattle.sum_sources.specs.inputs.{Input.Content, Input.InputState, Input.Reads, Input.empty_content, Stdin.StdinPlace, Stdin.closable_state, Stdin.given_input, Stdin.is_untaken, Stdin.stdin_after_taking, Stdin.stdin_after_put_back}
+use Rattle.sum_sources.specs.sources.Source.{result_at, Answers, Pair, ToldAnswers, SourceState, Opening, FitsAnswer, results_of, state_after_closing}
 
 -- whether a name is that of standard input
 abbrev pub is_dash : ByteString → Bool

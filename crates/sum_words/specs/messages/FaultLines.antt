@@ -2,9 +2,7 @@
 use Rattle.std.specs.Prelude.{◌++◌, codes, encode_utf8}
 use Rattle.digest_kinds.specs.Bytes.{ByteString}
 use Rattle.sum_lines.specs.Escape.{escape}
-use Rattle.sum_words.specs.Tool.{name_of}
-use Rattle.sum_words.specs.declared.parsing.options.Spelling.TheVariants.{Long, Short}
-use Rattle.sum_words.specs.{declared.tool.Tool.Tool, parsing.Options.full_name}
+use Rattle.sum_words.specs.{Tool.name_of, declared.parsing.options.Spelling.TheVariants.Long, declared.parsing.options.Spelling.TheVariants.Short, declared.tool.Tool.Tool, parsing.Options.full_name}
 use Rattle.sum_words.specs.parsing.WordFault as faults
 
 -- the text of a fault. What was typed is escaped in it as names of files are

@@ -1,10 +1,7 @@
 -- The texts of --help and --version.
-use Rattle.std.specs.Prelude.{[], ◌-◌, ◌++◌, codes, flat_map, if◌then◌else◌, length, replicate, bytes_eq}
-use Rattle.std.specs.Str.{byte}
-use Rattle.digest_kinds.specs.{Algo.tag, Bytes.ByteString}
-use Rattle.digest_kinds.specs.declared.algo.Algos.{Algos, TheVariants.One, TheVariants.Any}
-use Rattle.sum_words.specs.{Tool.name_of, Tool.algos_of, declared.parsing.options.Flag.Flag, declared.tool.Tool.Tool}
-use Rattle.sum_words.specs.parsing.Options.{row_of, takes_value, flags_of}
+use Rattle.std.specs.{Prelude.[], Prelude.◌-◌, Prelude.◌++◌, Prelude.codes, Prelude.flat_map, Prelude.if◌then◌else◌, Prelude.length, Prelude.replicate, Prelude.bytes_eq, Str.byte}
+use Rattle.digest_kinds.specs.{Algo.tag, Bytes.ByteString, declared.algo.Algos.Algos, declared.algo.Algos.TheVariants.One, declared.algo.Algos.TheVariants.Any}
+use Rattle.sum_words.specs.{Tool.name_of, Tool.algos_of, declared.parsing.options.Flag.Flag, declared.tool.Tool.Tool, parsing.Options.row_of, parsing.Options.takes_value, parsing.Options.flags_of}
 
 -- what a tool with these algorithms is for
 abbrev pub purpose : Algos → ByteString

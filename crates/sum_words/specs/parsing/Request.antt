@@ -1,19 +1,12 @@
 -- What a tool's words ask for: a request, or the first fault that counts.
-use Rattle.std.specs.{Char.is_ascii_digit, List.last_or, List.list_all, List.list_any}
-use Rattle.std.specs.Option.{ok_or, option_or, option_and_then}
-use Rattle.std.specs.Prelude.{◌&&◌, ◌||◌, not, nat_lt, Bool, true, false, List, [], ◌∷◌, Option, None, Some, Result, Ok}
-use Rattle.std.specs.Prelude.{Err, if◌then◌else◌, unwrap_or, option_map, option_to_list, filter, bytes_eq, filter_map}
-use Rattle.std.specs.{Result.result_ok, Result.result_err, Str.Parse.digits_value}
-use Rattle.digest_kinds.specs.{Bytes.ByteString, Kind.KindValue, Kind.full_kind, Kind.blake2b_of_bits}
-use Rattle.digest_kinds.specs.declared.algo.Algos.{Algos, TheVariants.One, TheVariants.Any}
+use Rattle.std.specs.Prelude.{◌&&◌, ◌||◌, not, nat_lt, Bool, true, false, List, [], ◌∷◌, Option, None, Some, Result, Ok, Err, if◌then◌else◌, unwrap_or, option_map, option_to_list, filter, bytes_eq, filter_map}
+use Rattle.std.specs.{List.last_or, List.list_all, List.list_any, Option.ok_or, Option.option_or, Option.option_and_then, Result.result_ok, Result.result_err, Char.is_ascii_digit, Str.Parse.digits_value}
+use Rattle.digest_kinds.specs.{Bytes.ByteString, Kind.KindValue, Kind.full_kind, Kind.blake2b_of_bits, declared.algo.Algos.Algos, declared.algo.Algos.TheVariants.One, declared.algo.Algos.TheVariants.Any}
 use Rattle.sum_settings.specs.declared.{settings.Report.Report, style.Mode.Mode, style.Style.Style}
-use Rattle.sum_words.specs.{Tool.algos_of, declared.parsing.options.Flag.Flag, declared.parsing.request.Request.Request}
-use Rattle.sum_words.specs.declared.parsing.request.Request.TheVariants.{Generate, Check, Help, Version}
-use Rattle.sum_words.specs.declared.tool.Tool.{Tool}
+use Rattle.sum_words.specs.parsing.WordFault.{WordFaultValue, length_invalid, length_not_bytes, tag_with_text, zero_with_check, tag_with_check, mode_with_check, without_check, check_needed}
 use Rattle.sum_words.specs.parsing.Items.{ItemValue, option, fault, a_word, items_from, option_in, value_in, operand_in}
-use Rattle.sum_words.specs.parsing.{Options.full_name, WordFault.WordFaultValue}
-use Rattle.sum_words.specs.parsing.WordFault.{length_invalid, length_not_bytes, tag_with_text, zero_with_check}
-use Rattle.sum_words.specs.parsing.WordFault.{tag_with_check, mode_with_check, without_check, check_needed}
+use Rattle.sum_words.specs.declared.parsing.request.Request.TheVariants.{Generate, Check, Help, Version}
+use Rattle.sum_words.specs.{Tool.algos_of, declared.parsing.options.Flag.Flag, declared.parsing.request.Request.Request, declared.tool.Tool.Tool, parsing.Options.full_name}
 use Rattle.sum_settings.specs.declared.style.Mode.TheVariants as modes
 use Rattle.sum_settings.specs.declared.settings.Report.TheVariants as reports
 use Rattle.sum_words.specs.declared.parsing.options.Flag.TheVariants as flags

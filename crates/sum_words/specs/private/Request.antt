@@ -1,14 +1,9 @@
 -- Relates the scan of the options to the request: the values so far, and what they make of it.
-use Rattle.std.specs.{Char.is_ascii_digit, List.last_or, List.list_all}
-use Rattle.std.specs.Prelude.{ℕ, ◌≡◌, ◌<◌, ◌^◌, ◌&&◌, ◌||◌, not, bytes_eq, true, Bool, List, [], Option, None, Some}
-use Rattle.std.specs.{Prelude.SomeIff, Prelude.option_copied, Prelude.filter_map, Str.Parse.digits_value}
+use Rattle.std.specs.Prelude.{ℕ, ◌≡◌, ◌<◌, ◌^◌, ◌&&◌, ◌||◌, not, bytes_eq, true, Bool, List, [], Option, None, Some, SomeIff, option_copied, filter_map}
+use Rattle.std.specs.{List.last_or, List.list_all, Char.is_ascii_digit, Str.Parse.digits_value}
 use Rattle.digest_kinds.specs.Bytes.{ByteString}
-use Rattle.sum_words.specs.declared.parsing.options.Flag.{Flag}
-use Rattle.sum_words.specs.declared.parsing.request.{Chosen.Chosen, ScannedOptions.ScannedOptions}
-use Rattle.sum_words.specs.declared.parsing.request.ScannedOptions.TheVariants.{Options, Early}
-use Rattle.sum_words.specs.parsing.Items.{ItemValue, option_in, value_in}
-use Rattle.sum_words.specs.parsing.Request.{report_flag, early_request, has, last_of, mode_flags, report_flags}
-use Rattle.sum_words.specs.parsing.WordFault.{result_value}
+use Rattle.sum_words.specs.declared.parsing.{options.Flag.Flag, request.Chosen.Chosen, request.ScannedOptions.ScannedOptions, request.ScannedOptions.TheVariants.Options, request.ScannedOptions.TheVariants.Early}
+use Rattle.sum_words.specs.parsing.{Items.ItemValue, Items.option_in, Items.value_in, Request.report_flag, Request.early_request, Request.has, Request.last_of, Request.mode_flags, Request.report_flags, WordFault.result_value}
 use Rattle.sum_words.specs.declared.parsing.options.Flag.TheVariants as flags
 
 -- an option was given earlier, or is in the rest, exactly if it is among all

@@ -1,7 +1,5 @@
-use Rattle.std.proofs.Common.{◌≡◌, ap, fold, refl, ◌∙◌}
-use Rattle.std.specs.List.{range_with_len}
-use Rattle.blake2b_core.specs.Compression.{compress, round, work_vector}
-use Rattle.blake2b_core.specs.private.Columns.{block_words, next_state, words}
+use Rattle.std.{proofs.Common.◌≡◌, proofs.Common.ap, proofs.Common.fold, proofs.Common.refl, proofs.Common.◌∙◌, specs.List.range_with_len}
+use Rattle.blake2b_core.specs.{Compression.compress, Compression.round, Compression.work_vector, private.Columns.block_words, private.Columns.next_state, private.Columns.words}
 use Rattle.blake2b_core.proofs.compression.advance.Goals as goal
 
 -- twelve rounds, and the new state

@@ -1,6 +1,5 @@
 use Rattle.std.proofs.Common.{refl}
-use Rattle.blake2b_core.specs.Compression.{round}
-use Rattle.blake2b_core.specs.private.Columns.{columns, diagonals, schedule}
+use Rattle.blake2b_core.specs.{Compression.round, private.Columns.columns, private.Columns.diagonals, private.Columns.schedule}
 use Rattle.blake2b_core.proofs.compression.round.Goals as goal
 
 -- the columns, and then the diagonals

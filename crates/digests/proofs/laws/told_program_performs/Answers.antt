@@ -1,7 +1,6 @@
 use Rattle.std.proofs.Common.{ℕ, List, [], Option, None, Some, inl, inr}
 use Rattle.digest_kinds.specs.Bytes.{ByteString}
-use Rattle.sum_engine.proofs.WorldLaws.{all_agree}
-use Rattle.sum_engine.specs.{Behavior.World, Execution.world_at, Execution.Agrees, Streams.StreamsState}
+use Rattle.sum_engine.{proofs.WorldLaws.all_agree, specs.Behavior.World, specs.Execution.world_at, specs.Execution.Agrees, specs.Streams.StreamsState}
 use Rattle.sum_words.specs.{CommandLine.command_line, declared.tool.Tool.Tool}
 use Rattle.digests.specs.{InMemory.CommandPerformsIn, Program.CommandPerforms}
 use Rattle.digests.proofs.laws.told_program_performs.Goals as goal

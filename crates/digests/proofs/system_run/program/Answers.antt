@@ -1,11 +1,9 @@
-use Rattle.std.proofs.Common.{rules, arith, ◌≡◌, ◌⊎◌, ℕ, suc, List, [], ◌∷◌, Option, None, Some, Ok, IfSome, codes, inl}
-use Rattle.std.proofs.Common.{inr, true, ap}
+use Rattle.std.proofs.Common.{rules, arith, ◌≡◌, ◌⊎◌, ℕ, suc, List, [], ◌∷◌, Option, None, Some, Ok, IfSome, codes, inl, inr, true, ap}
 use Rattle.digest_kinds.specs.Bytes.{ByteString}
 use Rattle.sum_engine.specs.{Behavior.World, Streams.StreamsState}
 use Rattle.sum_lines.specs.sinks.Sink.{SinkState}
-use Rattle.sum_sources.specs.{Fault.bad_descriptor, declared.fault.Ending.TheVariants.Broken, inputs.Input.Content}
-use Rattle.sum_sources.specs.{inputs.Input.empty_content, sources.Source.Pair, sources.Source.ToldAnswers}
-use Rattle.sum_sources.specs.sources.WithStdin.{answer_of_both, pairs_with_stdin}
+use Rattle.sum_sources.specs.{Fault.bad_descriptor, declared.fault.Ending.TheVariants.Broken, inputs.Input.Content, inputs.Input.empty_content}
+use Rattle.sum_sources.specs.sources.{Source.Pair, Source.ToldAnswers, WithStdin.answer_of_both, WithStdin.pairs_with_stdin}
 use Rattle.digests.specs.Program.{fresh_output, fresh_streams}
 use Rattle.digests.proofs.system_run.program.Goals as goal
 

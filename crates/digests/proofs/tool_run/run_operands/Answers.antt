@@ -1,7 +1,5 @@
-use Rattle.std.proofs.Common.{rules, arith, ap, Ok}
-use Rattle.std.proofs.{Math.Bool.and-true, lemmas.Result.err_from_is_err_and}
-use Rattle.sum_engine.proofs.ExecutionLemmas.{Happened-none}
-use Rattle.sum_engine.proofs.WorldLemmas.{reads_none, reads_weaker, reads_then}
+use Rattle.std.proofs.{Common.rules, Common.arith, Common.ap, Common.Ok, Math.Bool.and-true, lemmas.Result.err_from_is_err_and}
+use Rattle.sum_engine.proofs.{ExecutionLemmas.Happened-none, WorldLemmas.reads_none, WorldLemmas.reads_weaker, WorldLemmas.reads_then}
 use Rattle.digests.proofs.OperandLemmas.{left-next, operands_done_step, operands_done_stop}
 use Rattle.digests.proofs.tool_run.run_operands.Goals as goal
 

@@ -1,8 +1,7 @@
 use Rattle.std.proofs.Common.{length, Ok}
 use Rattle.sum_engine.specs.Streams.{StopHasCause}
 use Rattle.sum_words.specs.Tool.{name_of}
-use Rattle.digests.proofs.OperandLemmas.{HasReached, left}
-use Rattle.digests.specs.{Meaning.names_or_dash, private.ToolRun.job_refusals, private.ToolRun.operand_behavior}
+use Rattle.digests.{proofs.OperandLemmas.HasReached, proofs.OperandLemmas.left, specs.Meaning.names_or_dash, specs.private.ToolRun.job_refusals, specs.private.ToolRun.operand_behavior}
 use Rattle.digests.proofs.tool_run.run_operands.Given as goal
 
 -- the operands before this one were done; the source was refused nothing, and no

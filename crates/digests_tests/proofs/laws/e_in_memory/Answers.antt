@@ -1,9 +1,8 @@
 use Rattle.std.proofs.Common.{arith, ◌≡◌, ◌∙◌, ap, refl, ◌∷◌, ◌++◌, [], Ok, Some, codes}
 use Rattle.sum_engine.specs.Streams.{BothOutputs}
 use Rattle.sum_lines.specs.sinks.Sink.{SinkState}
-use Rattle.sum_sources.specs.inputs.Input.{empty_content}
 use Rattle.sum_sources.specs.sources.Source.{Pair, SourceState, first_answer, names_of, answer_of_first, times}
-use Rattle.sum_sources.specs.sources.WithStdin.{answers_with, pairs_with_stdin}
+use Rattle.sum_sources.specs.{sources.WithStdin.answers_with, sources.WithStdin.pairs_with_stdin, inputs.Input.empty_content}
 use Rattle.digests_tests.proofs.laws.e_in_memory.Goals as goal
 
 -- the file `e`, as the source has it

@@ -1,7 +1,6 @@
 use Rattle.std.proofs.{Common.Some, Common.Ok, Common.◌≡◌, lemmas.List.Elements.All-weaker}
 use Rattle.sum_engine.specs.Execution.{ReadsFile}
-use Rattle.sum_sources.specs.declared.{fault.Ending.TheVariants.Whole, inputs.input.Phase.TheVariants.Ended}
-use Rattle.sum_sources.specs.{inputs.Input.Reads, sources.Source.Opening}
+use Rattle.sum_sources.specs.{declared.fault.Ending.TheVariants.Whole, declared.inputs.input.Phase.TheVariants.Ended, inputs.Input.Reads, sources.Source.Opening}
 use Rattle.digests_tests.proofs.laws.reads_whole.Goals as goal
 
 -- each file was read as the program promises

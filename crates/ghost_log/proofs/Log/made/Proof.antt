@@ -13,11 +13,9 @@ use denote.RattleType.{RattleType, owns, Valss}
 use denote.Ref.{shr_vals, shr_Tells}
 use denote.Shadow.{pure_i}
 use denote.Signature.{plain, types_at}
-use denote.Triple.Entry.{alive}
-use denote.Triple.Walked.{says, stay_none_ref, Stays, ends_at, Goes-none_ref}
-use Rattle.ghost_log.proofs.Log.made.Statement.{statement}
+use denote.Triple.{Entry.alive, Walked.says, Walked.stay_none_ref, Walked.Stays, Walked.ends_at, Walked.Goes-none_ref}
+use Rattle.ghost_log.{proofs.Log.made.Statement.statement, specs.contracts.Log.made.ended, specs.contracts.Log.made.clauses}
 use Rattle.ghost_log.specs.contracts.Log.{the_row as Row}
-use Rattle.ghost_log.specs.contracts.Log.made.{ended, clauses}
 use Rattle.ghost_log.specs.contracts.Log.made.Key.{name as #self}
 use Rattle.ghost_log.proofs.Log.made.Code as code
 

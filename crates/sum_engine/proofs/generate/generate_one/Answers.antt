@@ -1,8 +1,5 @@
-use Rattle.std.proofs.Common.{refl, true, false, Ok, Err}
-use Rattle.std.proofs.lemmas.Result.{err_from_is_err_and}
-use Rattle.sum_engine.proofs.BehaviorLemmas.{Performs-step, Performs-refused}
-use Rattle.sum_engine.proofs.GenerateLemmas.{fault_found, one_step, refused_memory}
-use Rattle.sum_engine.proofs.{HashLemmas.hashes_name, WorldLemmas.reads_weaker}
+use Rattle.std.proofs.{Common.refl, Common.true, Common.false, Common.Ok, Common.Err, lemmas.Result.err_from_is_err_and}
+use Rattle.sum_engine.proofs.{BehaviorLemmas.Performs-step, BehaviorLemmas.Performs-refused, GenerateLemmas.fault_found, GenerateLemmas.one_step, GenerateLemmas.refused_memory, HashLemmas.hashes_name, WorldLemmas.reads_weaker}
 use Rattle.sum_engine.specs.{Behavior.World, Generate.generate_behavior}
 use Rattle.sum_engine.proofs.generate.generate_one.Goals as goal
 

@@ -1,5 +1,4 @@
-use Rattle.std.proofs.Common.{ap, sym, ◌∙◌, map}
-use Rattle.std.specs.Str.Lines.{strip_carriage_return}
+use Rattle.std.{proofs.Common.ap, proofs.Common.sym, proofs.Common.◌∙◌, proofs.Common.map, specs.Str.Lines.strip_carriage_return}
 use Rattle.sum_engine.specs.check.CheckOne.{content_behavior}
 use Rattle.sum_engine_tests.proofs.consequences.old_manifest_stays_good.Goals as goal
 

@@ -1,6 +1,5 @@
 use Rattle.std.proofs.{Common.arith, Common.◌≡◌, Common.◌+◌, lemmas.Result.on_ok_weaker}
-use Rattle.sum_engine.proofs.BehaviorLemmas.{kinds}
-use Rattle.sum_engine.specs.{Behavior.answer_to, Execution.world_at, check.CheckOne.check_behavior}
+use Rattle.sum_engine.{proofs.BehaviorLemmas.kinds, specs.Behavior.answer_to, specs.Execution.world_at, specs.check.CheckOne.check_behavior}
 use Rattle.sum_engine_tests.proofs.DashLemmas.{dashes, dashes-append, opened, check_opens}
 use Rattle.sum_engine_tests.proofs.standard_input.check_once.Goals as goal
 

@@ -1,5 +1,4 @@
-use Rattle.std.proofs.Common.{arith, ◌≡◌, ◌+◌}
-use Rattle.std.{proofs.lemmas.Result.on_ok_weaker, proofs.lemmas.Slice.Eq.bytes_eq-Decides, specs.Prelude.if◌then◌else◌}
+use Rattle.std.{proofs.Common.arith, proofs.Common.◌≡◌, proofs.Common.◌+◌, proofs.lemmas.Result.on_ok_weaker, proofs.lemmas.Slice.Eq.bytes_eq-Decides, specs.Prelude.if◌then◌else◌}
 use Rattle.sum_sources.specs.sources.WithStdin.{is_dash}
 use Rattle.sum_engine.{proofs.BehaviorLemmas.kinds, specs.Execution.world_at, specs.Generate.generate_behavior}
 use Rattle.sum_engine_tests.proofs.DashLemmas.{dashes, dashes-append, opened}

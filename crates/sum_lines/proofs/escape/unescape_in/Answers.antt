@@ -1,5 +1,4 @@
-use Rattle.std.proofs.Common.{arith, rules, ◌≤◌, length, ◌∙◌}
-use Rattle.std.proofs.lemmas.List.{take_rest}
+use Rattle.std.proofs.{Common.arith, Common.rules, Common.◌≤◌, Common.length, Common.◌∙◌, lemmas.List.take_rest}
 use Rattle.sum_lines.proofs.EscapeLemmas.{in_place, cut_after}
 use Rattle.sum_lines.proofs.escape.unescape_in.Goals as goal
 

@@ -1,8 +1,6 @@
-use Rattle.std.proofs.Common.{arith, ◌<◌, ◌+◌, ℕ, List, Result, Ok, Err, length, length-append, ap, sym, ◌∙◌}
-use Rattle.std.proofs.{Common.filter_map, lemmas.List.Elements.filter_map-append}
-use Rattle.std.specs.Prelude.{OnOk, OnErr, ⊤}
-use Rattle.sum_lines.proofs.EventLemmas.{output_events-bytes}
-use Rattle.sum_lines.specs.sinks.{Buffered.BufferState, Buffered.WritesAll, Output.written_byte}
+use Rattle.std.proofs.Common.{arith, ◌<◌, ◌+◌, ℕ, List, Result, Ok, Err, length, length-append, ap, sym, ◌∙◌, filter_map}
+use Rattle.std.{proofs.lemmas.List.Elements.filter_map-append, specs.Prelude.OnOk, specs.Prelude.OnErr, specs.Prelude.⊤}
+use Rattle.sum_lines.{proofs.EventLemmas.output_events-bytes, specs.sinks.Buffered.BufferState, specs.sinks.Buffered.WritesAll, specs.sinks.Output.written_byte}
 use Rattle.sum_lines_tests.proofs.callers.put.Goals as goal
 
 -- some bytes of a text that isn't empty are still buffered

@@ -1,12 +1,8 @@
 use Rattle.std.proofs.Common.{◌≡◌, ◌∙◌, ◌++◌, ◌∷◌, [], None, List, ℕ, refl, ap, sym, arith}
 use Rattle.std.{proofs.lemmas.List.map-append, specs.Prelude.MatchBool}
-use Rattle.sum_sources.proofs.GaveLemmas.{is_open_last, names-closed}
-use Rattle.sum_sources.specs.declared.sources.opened.Place.{Place, TheVariants.File, TheVariants.Stdin}
-use Rattle.sum_sources.specs.inputs.Input.{InputState}
-use Rattle.sum_sources.specs.inputs.Stdin.{StdinPlace, given_input, stdin_after_put_back, stdin_after_taking}
-use Rattle.sum_sources.specs.sources.{Place.is_stdin, WithStdin.parts_after_closing, WithStdin.TakesStdin}
-use Rattle.sum_sources.specs.sources.Source.{SourceState, state_with_opening, names_of}
-use Rattle.sum_sources.specs.sources.WithStdin.{answer_of_both, is_dash}
+use Rattle.sum_sources.{proofs.GaveLemmas.is_open_last, proofs.GaveLemmas.names-closed, specs.declared.sources.opened.Place.Place, specs.declared.sources.opened.Place.TheVariants.File, specs.declared.sources.opened.Place.TheVariants.Stdin}
+use Rattle.sum_sources.specs.inputs.{Input.InputState, Stdin.StdinPlace, Stdin.given_input, Stdin.stdin_after_put_back, Stdin.stdin_after_taking}
+use Rattle.sum_sources.specs.sources.{Place.is_stdin, WithStdin.parts_after_closing, WithStdin.TakesStdin, WithStdin.answer_of_both, WithStdin.is_dash, Source.SourceState, Source.state_with_opening, Source.names_of}
 use Rattle.sum_sources_tests.proofs.standard_input.visit.Goals as goal
 
 -- what was opened last is open

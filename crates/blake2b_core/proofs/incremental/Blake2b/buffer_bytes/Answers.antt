@@ -1,5 +1,4 @@
-use Rattle.std.proofs.Common.{◌≡◌, ◌+◌, ◌*◌, length, sym, ◌∙◌, arith, length-append}
-use Rattle.std.proofs.lemmas.Grind.{common_steps}
+use Rattle.std.proofs.{Common.◌≡◌, Common.◌+◌, Common.◌*◌, Common.length, Common.sym, Common.◌∙◌, Common.arith, Common.length-append, lemmas.Grind.common_steps}
 use Rattle.blake2b_core.proofs.BlockLemmas.{hash_after-append}
 use Rattle.blake2b_core.proofs.incremental.Blake2b.buffer_bytes.Goals as goal
 

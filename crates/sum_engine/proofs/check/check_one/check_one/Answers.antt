@@ -1,8 +1,6 @@
 use Rattle.std.proofs.Common.{refl, ◌≡◌, ap, ◌∙◌, Ok, Err, true}
-use Rattle.sum_engine.proofs.CheckOneLemmas.{check_opened, check_stops, not_read, not_asked, no_room, refused}
-use Rattle.sum_engine.proofs.OpenedNameLemmas.{WasOpened, was_opened, still_open}
-use Rattle.sum_engine.proofs.{WorldLemmas.reads_one, check.check_one.check_one.Goals.After-close}
-use Rattle.sum_engine.specs.{check.Rules.labels_of, check.Rules.rules_of, private.CheckOne.RunsManifest}
+use Rattle.sum_engine.proofs.{CheckOneLemmas.check_opened, CheckOneLemmas.check_stops, CheckOneLemmas.not_read, CheckOneLemmas.not_asked, CheckOneLemmas.no_room, CheckOneLemmas.refused, OpenedNameLemmas.WasOpened, OpenedNameLemmas.was_opened}
+use Rattle.sum_engine.{proofs.OpenedNameLemmas.still_open, proofs.WorldLemmas.reads_one, proofs.check.check_one.check_one.Goals.After-close, specs.check.Rules.labels_of, specs.check.Rules.rules_of, specs.private.CheckOne.RunsManifest}
 use Rattle.sum_sources.specs.{inputs.Input.InputState, sources.WithStdin.is_dash}
 use Rattle.sum_engine.proofs.check.check_one.check_one.Given as given
 use Rattle.sum_engine.proofs.check.check_one.check_one.Goals as goal

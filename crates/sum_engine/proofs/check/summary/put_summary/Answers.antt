@@ -1,7 +1,6 @@
 use Rattle.std.proofs.{Common.arith, Common.◌≡◌, Common.◌∙◌, lemmas.Bool.ne_eqb}
 use Rattle.sum_sources.specs.declared.fault.Ending.TheVariants.{Whole}
-use Rattle.sum_engine.specs.check.{Counts.Counts, Counts.entries, Rules.LabelsValue, Rules.CheckRules}
-use Rattle.sum_engine.specs.check.Summary.{warnings, end_text}
+use Rattle.sum_engine.specs.check.{Counts.Counts, Counts.entries, Rules.LabelsValue, Rules.CheckRules, Summary.warnings, Summary.end_text}
 use Rattle.sum_settings.specs.declared.settings.Report.TheVariants.{Status}
 use Rattle.sum_engine.proofs.check.summary.put_summary.Goals as goal
 

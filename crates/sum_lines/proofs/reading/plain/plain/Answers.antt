@@ -1,5 +1,4 @@
-use Rattle.std.proofs.Common.{◌+◌, take, drop, sym, arith}
-use Rattle.std.proofs.lemmas.List.{take-append-drop, take_rest, length-take}
+use Rattle.std.proofs.{Common.◌+◌, Common.take, Common.drop, Common.sym, Common.arith, lemmas.List.take-append-drop, lemmas.List.take_rest, lemmas.List.length-take}
 use Rattle.sum_lines.proofs.ScanLemmas.{plain_read, ends-after, front-ends, tail-place, two_digits}
 use Rattle.sum_lines.proofs.reading.plain.plain.Goals as goal
 

@@ -1,5 +1,4 @@
-use Rattle.std.proofs.Common.{rules}
-use Rattle.std.proofs.lemmas.{List.take_rest, List.nil_from_length, Result.err_from_is_err_and}
+use Rattle.std.proofs.{Common.rules, lemmas.List.take_rest, lemmas.List.nil_from_length, lemmas.Result.err_from_is_err_and}
 use Rattle.sum_lines.proofs.OfferLemmas.{HasGiven-none, HasGiven-more, HasGiven-all, HasGiven-failed}
 use Rattle.sum_lines.proofs.sinks.sink.give_all.Goals as goal
 

@@ -1,8 +1,6 @@
-use Rattle.std.proofs.Common.{rules, arith, refl, ap, ◌≡◌, ◌≤◌, ◌++◌, List, ℕ, length, length-append, drop, ◌∙◌}
-use Rattle.std.proofs.Math.Seq.{drop-append_seam}
-use Rattle.sum_sources.{proofs.LimitLemmas.before_more, specs.Fault.Ending}
+use Rattle.std.proofs.{Common.rules, Common.arith, Common.refl, Common.ap, Common.◌≡◌, Common.◌≤◌, Common.◌++◌, Common.List, Common.ℕ, Common.length, Common.length-append, Common.drop, Common.◌∙◌, Math.Seq.drop-append_seam}
 use Rattle.sum_sources.specs.inputs.Input.{Content, Reads, Fits, clip, reads_past, Unfinished}
-use Rattle.sum_sources.specs.private.SizeLimit.{FindsEnding}
+use Rattle.sum_sources.{proofs.LimitLemmas.before_more, specs.Fault.Ending, specs.private.SizeLimit.FindsEnding}
 use Rattle.sum_sources.proofs.inputs.hash_input.hash_input_over.Goals as goal
 
 -- the ending was read after these bytes

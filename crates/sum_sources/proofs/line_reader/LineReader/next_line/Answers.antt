@@ -1,10 +1,7 @@
-use Rattle.std.proofs.Common.{ap, arith, ◌≡◌, length, Some, Err}
-use Rattle.std.proofs.lemmas.Grind.{common_steps}
-use Rattle.sum_sources.proofs.ReadOnLemmas.{counted, settled_again}
+use Rattle.std.proofs.{Common.ap, Common.arith, Common.◌≡◌, Common.length, Common.Some, Common.Err, lemmas.Grind.common_steps}
+use Rattle.sum_sources.{specs.declared.inputs.input.TheConstants.PIECE, proofs.ReadOnLemmas.counted, proofs.ReadOnLemmas.settled_again}
 use Rattle.sum_sources.specs.LineReader.{IsBounded, line_reader_view, final_answer_in, IsSoundReader}
-use Rattle.sum_sources.specs.declared.{inputs.input.TheConstants.PIECE, line_reader.LineReader.TheInside.Inside}
-use Rattle.sum_sources.specs.declared.line_reader.{LineStop.TheVariants.Memory, ReaderState.ReaderState}
-use Rattle.sum_sources.specs.declared.line_reader.ReaderState.TheVariants.{Active, Done, Stopped}
+use Rattle.sum_sources.specs.declared.line_reader.{LineReader.TheInside.Inside, ReaderState.ReaderState, LineStop.TheVariants.Memory, ReaderState.TheVariants.Active, ReaderState.TheVariants.Done, ReaderState.TheVariants.Stopped}
 use Rattle.sum_sources.proofs.line_reader.LineReader.next_line.Goals as goal
 
 -- the end is returned again

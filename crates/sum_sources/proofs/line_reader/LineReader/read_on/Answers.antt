@@ -1,10 +1,7 @@
-use Rattle.std.proofs.Common.{rules, arith, refl, ap, sym, append-nil, ◌≡◌, ◌∙◌, [], Ok, Err, length}
-use Rattle.std.proofs.lemmas.{Grind.common_steps, List.nil_from_length}
-use Rattle.sum_sources.proofs.{LineLemmas.IsNextLine-last, LineLemmas.IsNextLine-fault, ReadOnLemmas.adds_of}
-use Rattle.sum_sources.proofs.ReadOnLemmas.{HasRead, HasRead-more, HasRead-filled, ends_line, ends_memory, no_line}
-use Rattle.sum_sources.proofs.{ReadOnLemmas.ReadsOn-ending, line_reader.LineReader.read_on.Goals.In-Ok-false}
-use Rattle.sum_sources.specs.{Fault.Whole, Fault.Broken, LineReader.IsReading, LineReader.LineReaderValue}
-use Rattle.sum_sources.specs.ManifestLines.{HasNoNewline, Line, NoMore}
+use Rattle.std.proofs.{Common.rules, Common.arith, Common.refl, Common.ap, Common.sym, Common.append-nil, Common.◌≡◌, Common.◌∙◌, Common.[], Common.Ok, Common.Err, Common.length, lemmas.Grind.common_steps, lemmas.List.nil_from_length}
+use Rattle.sum_sources.proofs.ReadOnLemmas.{adds_of, HasRead, HasRead-more, HasRead-filled, ends_line, ends_memory, no_line, ReadsOn-ending}
+use Rattle.sum_sources.specs.{ManifestLines.HasNoNewline, ManifestLines.Line, ManifestLines.NoMore, LineReader.IsReading, LineReader.LineReaderValue, Fault.Whole, Fault.Broken}
+use Rattle.sum_sources.proofs.{line_reader.LineReader.read_on.Goals.In-Ok-false, LineLemmas.IsNextLine-last, LineLemmas.IsNextLine-fault}
 use Rattle.sum_sources.specs.declared.line_reader.LineStop.TheVariants as stops
 use Rattle.sum_sources.proofs.line_reader.LineReader.read_on.Given as given
 use Rattle.sum_sources.proofs.line_reader.LineReader.read_on.Goals as goal

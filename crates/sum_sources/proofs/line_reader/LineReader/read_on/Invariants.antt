@@ -1,6 +1,5 @@
 use Rattle.std.proofs.Common.{◌≡◌, ◌^◌, ◌-◌, ◌+◌, None, length}
-use Rattle.sum_sources.{proofs.ReadOnLemmas.HasRead, specs.LineReader.consumed_count}
-use Rattle.sum_sources.specs.{LineReader.IsReading, ManifestLines.HasNoNewline, inputs.Input.IsSameInput}
+use Rattle.sum_sources.{proofs.ReadOnLemmas.HasRead, specs.LineReader.consumed_count, specs.LineReader.IsReading, specs.ManifestLines.HasNoNewline, specs.inputs.Input.IsSameInput}
 use Rattle.sum_sources.proofs.line_reader.LineReader.read_on.Given as goal
 
 -- the line so far, and what stays

@@ -1,9 +1,6 @@
-use Rattle.std.proofs.Common.{◌≡◌, List, ℕ, Result, Ok, Err}
-use Rattle.std.specs.Result.{IsErrAnd}
+use Rattle.std.{proofs.Common.◌≡◌, proofs.Common.List, proofs.Common.ℕ, proofs.Common.Result, proofs.Common.Ok, proofs.Common.Err, specs.Result.IsErrAnd}
 use Rattle.digest_kinds.specs.Kind.{KindValue}
-use Rattle.sum_sources.proofs.GaveLemmas.{is_open_last, hashed_last}
-use Rattle.sum_sources.specs.{Fault.Fault, sources.HashFile.HashFault}
-use Rattle.sum_sources.specs.sources.{HashFile.HashesFile, HashFile.HashesOpened, Source.SourceState}
+use Rattle.sum_sources.{proofs.GaveLemmas.is_open_last, proofs.GaveLemmas.hashed_last, specs.Fault.Fault, specs.sources.HashFile.HashFault, specs.sources.HashFile.HashesFile, specs.sources.HashFile.HashesOpened, specs.sources.Source.SourceState}
 use Rattle.sum_sources.specs.declared.sources.hash_file.HashFault.TheVariants as hashing
 use Rattle.sum_sources.proofs.sources.hash_file.hash_file_over.Goals as goal
 

@@ -1,6 +1,5 @@
 use Rattle.std.proofs.Common.{refl}
-use Rattle.sum_sources.proofs.GaveLemmas.{closing_gives}
-use Rattle.sum_sources.specs.inputs.{Input.InputState, InputLaws.told_has_content, Told.told_state, Told.told_view}
+use Rattle.sum_sources.{proofs.GaveLemmas.closing_gives, specs.inputs.Input.InputState, specs.inputs.InputLaws.told_has_content, specs.inputs.Told.told_state, specs.inputs.Told.told_view}
 use Rattle.sum_sources_tests.specs.Fronts.{fronts_state, tells_fronts}
 use Rattle.sum_sources_tests.proofs.fronts.FrontsSource.close_file.Goals as goal
 

@@ -1,7 +1,5 @@
-use Rattle.std.proofs.Common.{◌≡◌, ◌==◌, ◌&&◌, List, drop, filter}
-use Rattle.std.specs.List.{starts_with, cons_option}
-use Rattle.sum_words.specs.declared.parsing.options.Flag.{Flag}
-use Rattle.sum_words.specs.parsing.Options.{full_name, has_option, only_or_fault}
+use Rattle.std.{proofs.Common.◌≡◌, proofs.Common.◌==◌, proofs.Common.◌&&◌, proofs.Common.List, proofs.Common.drop, proofs.Common.filter, specs.List.starts_with, specs.List.cons_option}
+use Rattle.sum_words.specs.{declared.parsing.options.Flag.Flag, parsing.Options.full_name, parsing.Options.has_option, parsing.Options.only_or_fault}
 use Rattle.sum_words.proofs.parsing.options.only_begun.Given as goal
 
 -- the option found so far and the remaining ones give the same as all

@@ -1,8 +1,6 @@
 use Rattle.std.proofs.Common.{rules, arith, ◌≡◌, true, refl, ap, sym, ◌∙◌, Ok, Err}
-use Rattle.sum_lines.{proofs.EntryLemmas.ignored_undecided, specs.declared.reading.read_line.Form.TheVariants.Undecided}
-use Rattle.sum_lines.specs.grammar.{Entries.is_ignored, Form.form_then}
-use Rattle.sum_engine.proofs.NextVerdictLemmas.{next_verdict-line, next_verdict-stop}
-use Rattle.sum_engine.{proofs.WorldLemmas.asks_none, specs.check.Verdicts.VerdictsValue}
+use Rattle.sum_lines.{proofs.EntryLemmas.ignored_undecided, specs.declared.reading.read_line.Form.TheVariants.Undecided, specs.grammar.Entries.is_ignored, specs.grammar.Form.form_then}
+use Rattle.sum_engine.{proofs.NextVerdictLemmas.next_verdict-line, proofs.NextVerdictLemmas.next_verdict-stop, proofs.WorldLemmas.asks_none, specs.check.Verdicts.VerdictsValue}
 use Rattle.sum_engine.proofs.check.verdicts.Verdicts.next.Goals as goal
 
 -- the line was judged

@@ -1,8 +1,5 @@
-use Rattle.std.proofs.Common.{rules, ◌≡◌, ◌∷◌, ◌++◌, [], Some, map}
-use Rattle.std.{proofs.lemmas.List.map-append, specs.Result.is_ok}
-use Rattle.sum_sources.proofs.{GaveLemmas.true_or_false, ToldSourceLemmas.adding_gives}
-use Rattle.sum_sources.specs.sources.Source.{Pair}
-use Rattle.sum_sources.specs.sources.StoredPair.{state_with_pairs, pair_view, answer_view}
+use Rattle.std.{proofs.Common.rules, proofs.Common.◌≡◌, proofs.Common.◌∷◌, proofs.Common.◌++◌, proofs.Common.[], proofs.Common.Some, proofs.Common.map, proofs.lemmas.List.map-append, specs.Result.is_ok}
+use Rattle.sum_sources.{proofs.GaveLemmas.true_or_false, proofs.ToldSourceLemmas.adding_gives, specs.sources.Source.Pair, specs.sources.StoredPair.state_with_pairs, specs.sources.StoredPair.pair_view, specs.sources.StoredPair.answer_view}
 use Rattle.sum_sources.proofs.sources.told_source.ToldSource.add.Goals as goal
 
 -- the pair answers from the next opening of its name on

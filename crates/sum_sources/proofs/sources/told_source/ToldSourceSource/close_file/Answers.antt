@@ -1,8 +1,6 @@
-use Rattle.std.proofs.Common.{◌≡◌, Some, Ok, Err, refl, ap}
-use Rattle.std.specs.Result.{result_ok}
+use Rattle.std.{proofs.Common.◌≡◌, proofs.Common.Some, proofs.Common.Ok, proofs.Common.Err, proofs.Common.refl, proofs.Common.ap, specs.Result.result_ok}
 use Rattle.sum_sources.proofs.GaveLemmas.{names-closed, closing_gives}
-use Rattle.sum_sources.specs.inputs.{Input.Content, InputLaws.told_has_content, Told.told_state, Told.told_view}
-use Rattle.sum_sources.specs.sources.{Source.AnswerValue, Source.answer_of_first, StoredPair.state_with_pairs}
+use Rattle.sum_sources.specs.{inputs.Input.Content, inputs.InputLaws.told_has_content, inputs.Told.told_state, inputs.Told.told_view, sources.Source.AnswerValue, sources.Source.answer_of_first, sources.StoredPair.state_with_pairs}
 use Rattle.sum_sources.proofs.sources.told_source.ToldSourceSource.close_file.Goals as goal
 
 -- the answer that has this content

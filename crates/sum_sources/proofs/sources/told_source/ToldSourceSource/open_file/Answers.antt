@@ -1,6 +1,5 @@
 use Rattle.std.proofs.Common.{rules, Some, Err}
-use Rattle.sum_sources.proofs.GaveLemmas.{open_gives, opening_gives}
-use Rattle.sum_sources.specs.sources.{Source.answer_of_first, StoredPair.state_with_pairs}
+use Rattle.sum_sources.{proofs.GaveLemmas.open_gives, proofs.GaveLemmas.opening_gives, specs.sources.Source.answer_of_first, specs.sources.StoredPair.state_with_pairs}
 use Rattle.sum_sources.proofs.sources.told_source.ToldSourceSource.open_file.Goals as goal
 
 -- the fault is its answer

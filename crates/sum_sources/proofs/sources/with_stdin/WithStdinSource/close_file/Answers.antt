@@ -1,8 +1,6 @@
-use Rattle.std.proofs.Common.{◌≡◌, ◌∙◌, ap, true, false}
-use Rattle.std.proofs.{Math.Logic.∥∥₁_elim, Math.Logic.∥∥₁_map, Props.props}
+use Rattle.std.proofs.{Common.◌≡◌, Common.◌∙◌, Common.ap, Common.true, Common.false, Math.Logic.∥∥₁_elim, Math.Logic.∥∥₁_map, Props.props}
 use Rattle.sum_sources.proofs.WithStdinLemmas.{kept_closing, kept_back, open_there, stdin_gives}
-use Rattle.sum_sources.specs.inputs.InputLaws.{opened_has_content}
-use Rattle.sum_sources.specs.sources.{Place.is_stdin, Place.place_state, WithStdin.is_dash}
+use Rattle.sum_sources.specs.{inputs.InputLaws.opened_has_content, sources.Place.is_stdin, sources.Place.place_state, sources.WithStdin.is_dash}
 use Rattle.sum_sources.proofs.sources.with_stdin.WithStdinSource.close_file.Goals as goal
 
 -- standard input was put back

@@ -1,7 +1,5 @@
-use Rattle.std.proofs.Common.{◌∙◌, refl, sym, ap}
-use Rattle.std.proofs.{Math.Logic.∥∥₁_elim, Math.Logic.∥∥₁_map, Props.props}
-use Rattle.sum_sources.proofs.WithStdinLemmas.{kept_opening, kept_stdin, stdin_opened, file_opened}
-use Rattle.sum_sources.specs.sources.Place.{place_state}
+use Rattle.std.proofs.{Common.◌∙◌, Common.refl, Common.sym, Common.ap, Math.Logic.∥∥₁_elim, Math.Logic.∥∥₁_map, Props.props}
+use Rattle.sum_sources.{proofs.WithStdinLemmas.kept_opening, proofs.WithStdinLemmas.kept_stdin, proofs.WithStdinLemmas.stdin_opened, proofs.WithStdinLemmas.file_opened, specs.sources.Place.place_state}
 use Rattle.sum_sources.proofs.sources.with_stdin.WithStdinSource.open_file.Goals as goal
 
 -- ---- `-`
