@@ -33,7 +33,7 @@ IMPORT = {
     ".rt": "ghost use Rattle.std.specs.Prelude.{⊤};\n",
     ".antt": "use Rattle.std.specs.Prelude.{⊤}\n",
 }
-IMPORTED = re.compile(r"(?m)^(?:ghost )?use Rattle\.std\.\S*Prelude\.\{(?:.*, )?⊤[,}]")
+IMPORTED = re.compile(r"(?m)^(?:ghost )?use Rattle\.std\..*[{ .]⊤[,}]")
 # A record of statements has values as parameters, besides types. Each field is a statement.
 STATEMENT = re.compile(r"(?m)^pub record \w+ (?:[({].*: Type 0[)}] )?[({](?!.*: Type 0[)}])")
 FIELD = re.compile(r"(?m)^  pub (\w+) : (.*(?:\n      .*)*)")
@@ -45,25 +45,30 @@ IN_A_PROOF = re.compile(
 )
 LEMMA = re.compile(r"(?:pub )?(?:abbrev )?([^\s:]+) :")
 OF_A_FUNCTION = "Answers", "Invariants", "Proof"  # the files of its own proof
+OPENING, CLOSING = {*"([{"}, {*")]}"}
 CALLERS_OF_EACH, PROMISES_AT_ONCE = 3, 12  # at most, in the first round
 
 
 class Case:
     """A promise that is emptied: its name, such as `sum_lines put_line.behavior`; its file, where
     it stands there, and what is put in its place; the symbols of the functions that have to keep
-    it, and the words of which it is a part; and the file of who misses it, if it was tried."""
+    it, and of those that only presume it; the words of which it is a part; and the file of who
+    misses it, if it was tried."""
 
-    def __init__(self, name, path, place, replacement, keepers, words=frozenset()):
+    def __init__(self, name, path, place, replacement, keepers, presume=(), words=frozenset()):
         self.name, self.path, self.place, self.replacement = name, path, place, replacement
-        self.keepers, self.words, self.label = keepers, words, name.rpartition(".")[2]
+        self.keepers, self.presume = keepers, presume
+        self.words, self.label = words, name.rpartition(".")[2]
         self.log = OUT / state() / re.sub(r"\W+", ".", name)
 
     @functools.lru_cache(maxsize=None)
     def involved(self):
-        """Returns the symbols of the functions that have to keep it, and of all their callers."""
+        """Returns the symbols of the functions that keep or presume it, and of all who call the
+        former."""
         calls = set().union(*map(calls_of, self.keepers))
         others = {name for name, called in beside().items() if called & calls}
-        return self.keepers.union(others, *(callers().get(keeper, ()) for keeper in self.keepers))
+        of_each = (callers().get(keeper, ()) for keeper in self.keepers)
+        return self.keepers.union(self.presume, others, *of_each)
 
     def missed_by(self, functions, lemmas):
         """Returns those of the functions and lemmas that don't state the promise."""
@@ -119,37 +124,61 @@ def cases_of_clauses():
                 yield Case(name, path, place, "{ ⊤ }", keepers_of(item))
 
 
-def promised(item):
-    """Returns the definitions to which what a function ensures leads."""
+def concluded(tokens):
+    """Returns those of a clause's tokens that follow its last arrow outside brackets."""
+    depth = start = 0
+    for place, token in enumerate(tokens, 1):
+        depth += (token.text in OPENING) - (token.text in CLOSING)
+        if token.text == "→" and not depth:
+            start = place
+    return tokens[start:]
+
+
+@functools.lru_cache(maxsize=None)
+def definitions():
+    """Returns all definitions, each with those to which it leads, but those of its premises."""
+    modules = specs().modules.values()
+    found = {}
+    for definition in (one for module in modules for one in module.definitions.values()):
+        places = [place for place, token in enumerate(definition.tokens) if token.text == "="]
+        tokens = concluded(definition.tokens[places[0] :]) if len(places) == 1 else ()
+        module = definition.module
+        found[definition] = specs().named(tokens, module.imports, module.name) - {definition}
+    return found
+
+
+def led_to(item, part, instead=None):
+    """Returns the definitions to which this part of what a function ensures leads."""
     clauses = [clause for clause in item.clauses if clause.label]
-    named = [specs().named(clause.tokens, item.uses) for clause in clauses]
-    return specs().reached(set().union(*named))
+    named = [specs().named(part(clause.tokens), item.uses) for clause in clauses]
+    return specs().reached(set().union(*named), instead)
 
 
 def cases_of_fields():
     """Yields a case for each field of a record of statements to which a public call leads."""
-    led_to = {item: promised(item) for item in code().functions}
-    public = set().union(*(led_to[item] for item in public_calls()))
+    named = {item: led_to(item, list) for item in code().functions}
+    promised = {item: led_to(item, concluded, definitions()) for item in code().functions}
+    public = set().union(*(named[item] for item in public_calls()))
     for definition in sorted(public, key=lambda definition: definition.name):
         block = "\n".join(definition.lines)
         if STATEMENT.search(block):
             path = "crates/{}/specs/{}.antt".format(*definition.file)
             start = text_of(path).index(block)
-            keepers = {item.symbol for item in code().functions if definition in led_to[item]}
+            keepers = {item.symbol for item in promised if definition in promised[item]}
+            users = {item.symbol for item in named if definition in named[item]}
             for field in FIELD.finditer(block):
                 if len(re.findall(rf"(?<![.\w]){field[1]}\b", block.partition("where")[2])) > 1:
                     continue  # it is a value, since others speak of it
                 place = slice(start + field.start(2), start + field.end(2))
                 name = f"{definition.module.crate} {definition.name}.{field[1]}"
-                yield Case(name, path, place, "⊤", keepers, words_with(definition))
+                words = words_with(definition)
+                yield Case(name, path, place, "⊤", keepers, users - keepers, words)
 
 
 @functools.lru_cache(maxsize=None)
 def parts():
-    """Returns the parts of each definition: all definitions that it reaches."""
-    modules = specs().modules.values()
-    every = [found for module in modules for found in module.definitions.values()]
-    return {found: specs().reached([found]) for found in every}
+    """Returns the parts of each definition: all to which it leads, but by premises."""
+    return {found: specs().reached([found], definitions()) for found in definitions()}
 
 
 def words_with(definition):
