@@ -136,7 +136,8 @@ def concluded(tokens):
 
 @functools.lru_cache(maxsize=None)
 def definitions():
-    """Returns all definitions, each with those to which it leads, but those of its premises."""
+    """Returns all definitions, each with those to which it leads, but those of its premises. One
+    without a single equation has none here, and leads to all that it names."""
     modules = specs().modules.values()
     found = {}
     for definition in (one for module in modules for one in module.definitions.values()):
