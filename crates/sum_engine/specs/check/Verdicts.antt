@@ -108,11 +108,6 @@ pub record HoldsInEachCheck {I : Type 0} (state_of : I → InputState) (old new 
 abbrev pub VerdictResult : Type 0
 VerdictResult = Result (Option LineVerdict) LineStop
 
--- the first line that remained was judged, and counted
-pub record FindsFirstVerdict (rules : CheckRules) (before after : CheckState) (found : LineVerdictValue) : Type 0 where
-  pub first : remaining_verdicts rules before ≡ found ∷ remaining_verdicts rules after
-  pub counts : after.counts ≡ counts_and_line before.counts found.verdict
-
 -- no line remained, and the manifest has this ending. Nothing was counted, and only the ending remains
 pub record HasNoVerdictLeft (rules : CheckRules) (last : Ending) (before after : CheckState) : Type 0 where
   pub verdicts : remaining_verdicts rules before ≡ []
@@ -120,10 +115,11 @@ pub record HasNoVerdictLeft (rules : CheckRules) (last : Ending) (before after :
   pub counts : after.counts ≡ before.counts
   pub remaining : after.remaining ≡ record { bytes = []; ending = last }
 
--- the call found the next verdict, or that none is left, as its result says
+-- the call found the first verdict of those that remained, or that none remained, as its result says
 abbrev pub IsNextVerdict : CheckRules → ByteString → CheckState → CheckState → VerdictResult → Type 0
 IsNextVerdict rules vector before after (Ok (Some found)) =
-    FindsFirstVerdict rules before after (line_verdict_value vector found) × HandlesLine rules before after vector
+    (remaining_verdicts rules before ≡ line_verdict_value vector found ∷ remaining_verdicts rules after)
+    × HandlesLine rules before after vector
 IsNextVerdict rules vector before after (Ok None) = HasNoVerdictLeft rules Whole before after
 IsNextVerdict rules vector before after (Err (Fault fault)) = HasNoVerdictLeft rules (Broken fault) before after
 IsNextVerdict rules vector before after (Err Memory) = (0 < length before.remaining.bytes) × ReadsOneLine before after
