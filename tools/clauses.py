@@ -27,6 +27,7 @@ from believed import code, specs
 from checks import copy, lanes
 from items import clauses_in
 from sources import TOP, below, dependencies, text_of, tokens_of
+from unproved import conclusion_of, proved, unproved
 
 OUT = Path(TOP, "out", "clauses")
 IMPORT = {
@@ -37,14 +38,6 @@ IMPORTED = re.compile(r"(?m)^(?:ghost )?use Rattle\.std\..*[{ .]⊤[,}]")
 # A record of statements has values as parameters, besides types. Each field is a statement.
 STATEMENT = re.compile(r"(?m)^pub record \w+ (?:[({].*: Type 0[)}] )?[({](?!.*: Type 0[)}])")
 FIELD = re.compile(r"(?m)^  pub (\w+) : (.*(?:\n      .*)*)")
-# What the kit prints of a function that is proved, of one that isn't, and of an error in a proof.
-PROVED = re.compile(r"(?m)^fn (\S+): proved")
-UNPROVED = re.compile(r"(?m)^fn (\S+): (?:not proved|no proof)(.*)")
-IN_A_PROOF = re.compile(
-    r"(\w+/(?:proofs|specs)/[\w/]+)\.antt:(\d+):\d+: error: (?!\d+ declarations? that depends? on )"
-)
-LEMMA = re.compile(r"(?:pub )?(?:abbrev )?([^\s:]+) :")
-OF_A_FUNCTION = "Answers", "Invariants", "Proof"  # the files of its own proof
 OPENING, CLOSING = {*"([{"}, {*")]}"}
 CALLERS_OF_EACH, PROMISES_AT_ONCE = 3, 12  # at most, in the first round
 
@@ -71,28 +64,16 @@ class Case:
         return self.keepers.union(self.presume, others, *of_each)
 
     def missed_by(self, functions, lemmas):
-        """Returns those of the functions and lemmas that don't state the promise."""
-        found = [name for name in functions if name not in self.keepers]
+        """Returns those of the functions and lemmas that need the promise, and not only to keep
+        it themselves."""
+        found = [name for name, other in functions.items() if other or name not in self.keepers]
         texts = texts_without([self])
         for path, line in lemmas:
             text = texts.get(f"crates/{path}") or text_of("crates", path)
             row, said = text.split("\n")[int(line) - 1], conclusion_of(text, int(line))
-            if not re.search(rf"\b{self.label} =", row) and not self.words & said:
+            if not re.search(rf"(?<!let )\b{self.label} =", row) and not self.words & said:
                 found.append(f"{path}:{line}")
         return found
-
-
-def conclusion_of(text, line):
-    """Returns the words of what a lemma concludes, which has an error on this line of a file."""
-    rows = text.split("\n")
-    start = next((row for row in range(line - 1, -1, -1) if LEMMA.match(rows[row])), 0)
-    name = LEMMA.match(rows[start])
-    statement = rows[start : start + 1]
-    for row in rows[start + 1 :]:
-        if not row or name and row.startswith(f"{name[1]} "):
-            break
-        statement.append(row)
-    return {*re.findall(r"[\w≡-]+", " ".join(statement).rpartition(" → ")[2])}
 
 
 def public_calls():
@@ -125,7 +106,10 @@ def cases_of_clauses():
 
 
 def concluded(tokens):
-    """Returns those of a clause's tokens that follow its last arrow outside brackets."""
+    """Returns those of a clause's tokens that follow its last arrow outside brackets; none if it
+    has `↔`, since each side is then a premise, too."""
+    if any(token.text == "↔" for token in tokens):
+        return ()
     depth = start = 0
     for place, token in enumerate(tokens, 1):
         depth += (token.text in OPENING) - (token.text in CLOSING)
@@ -137,7 +121,8 @@ def concluded(tokens):
 @functools.lru_cache(maxsize=None)
 def definitions():
     """Returns all definitions, each with those to which it leads, but those of its premises. One
-    without a single equation has none here, and leads to all that it names."""
+    with `↔` leads to itself alone. Another without a single equation has none here, and leads to
+    all that it names."""
     modules = specs().modules.values()
     found = {}
     for definition in (one for module in modules for one in module.definitions.values()):
@@ -145,6 +130,8 @@ def definitions():
         tokens = concluded(definition.tokens[places[0] :]) if len(places) == 1 else ()
         module = definition.module
         found[definition] = specs().named(tokens, module.imports, module.name) - {definition}
+        if any(token.text == "↔" for token in definition.tokens):
+            found[definition] = {definition}
     return found
 
 
@@ -234,7 +221,7 @@ def beside():
     """Returns the functions of the crates beside the program's libraries, each with the calls that
     its text seems to have."""
     found = {}
-    for symbol in PROVED.findall((OUT / state() / "whole").read_text("utf-8")):
+    for symbol in proved((OUT / state() / "whole").read_text("utf-8")):
         crate, *parts, name = symbol.split("::")
         source = Path(TOP, "crates", crate, "src")
         paths = [source.joinpath(*parts).with_suffix(".rt"), source / "lib.rt"]
@@ -247,25 +234,11 @@ def beside():
     return found
 
 
-def failed(output):
-    """Returns the functions and the lemmas, a path and a line each, that the kit's output says
-    aren't proved, without those of which only what they name isn't."""
-    places = [(Path(path), line) for path, line in IN_A_PROOF.findall(output)]
-    own = {str(path.parent) for path, _ in places if path.name in OF_A_FUNCTION}
-    lemmas = [(f"{path}.antt", line) for path, line in places if path.name not in OF_A_FUNCTION]
-    functions = []
-    for symbol, why in UNPROVED.findall(output):
-        folder = symbol.replace("::", "/proofs/", 1).replace("::", "/")
-        if "`search` did not prove" in why or folder in own:
-            functions.append(symbol)
-    return functions, lemmas
-
-
 def check(kept, names, cases=(), only=()):
     """Proves these functions or, if none are named, all of some crates, without what the cases
-    empty, over what was kept of whole ones. Returns what the kit says. Without a case, the work is
-    kept if all is proved. The crates are sources of a crate that has nothing else, so that nothing
-    is built."""
+    empty, over what was kept of whole ones, which may be older. Returns what the kit says. Without
+    a case, the work is kept if all is proved. The crates are sources of a crate that has nothing
+    else, so that nothing is built."""
     with tempfile.TemporaryDirectory(prefix="digests-clauses-") as folder:
         own, sources = Path(folder, "crates", "all"), Path(folder, "sources", "crates")
         os.makedirs(own / "src")
@@ -288,6 +261,7 @@ def check(kept, names, cases=(), only=()):
         how = {"cwd": own, "stdin": subprocess.DEVNULL, "stderr": subprocess.STDOUT}
         ran = subprocess.run(command, stdout=subprocess.PIPE, **how)
         if not cases and ran.returncode == 0:
+            shutil.rmtree(kept, ignore_errors=True)
             shutil.move(own / "out/incremental", kept)
         return ran.stdout.decode(errors="replace")
 
@@ -345,9 +319,8 @@ def main(words):
     kept, whole = OUT / "kept", OUT / state() / "whole"
     whole.parent.mkdir(parents=True, exist_ok=True)
     if not whole.exists():
-        shutil.rmtree(kept, ignore_errors=True)
         said = check(kept, crates())
-        if not kept.is_dir():
+        if "logic=proved" not in said:
             sys.exit(f"{said}clauses.py: the crates aren't proved")
         whole.write_text(said, "utf-8")
     cases = [*cases_of_clauses(), *cases_of_fields()]
@@ -361,7 +334,7 @@ def main(words):
     def try_group(group):
         few = sorted(set().union(*group.values()))
         crate = crate_of(few[0])
-        functions, lemmas = failed(check(kept, [*below(crate), crate], group, few))
+        functions, lemmas = unproved(check(kept, [*below(crate), crate], group, few))
         for case, of_case in group.items():
             found = [name for name in functions if name in of_case]
             if found and not lemmas:  # a lemma may miss each of them
@@ -370,10 +343,10 @@ def main(words):
     def try_alone(case):
         for few in callers_of(case):
             crate = crate_of(few[0])
-            ended = failed(check(kept, [*below(crate), crate], [case], few))
+            ended = unproved(check(kept, [*below(crate), crate], [case], few))
             if found := case.missed_by(*ended):
                 return keep(case, found[0])
-        return keep(case, [*case.missed_by(*failed(check(kept, crates(), [case]))), "nobody"][0])
+        return keep(case, [*case.missed_by(*unproved(check(kept, crates(), [case]))), "nobody"][0])
 
     def left():
         return [case for case in cases if not case.log.exists()]
