@@ -68,10 +68,11 @@ class Case:
         it themselves."""
         found = [name for name, other in functions.items() if other or name not in self.keepers]
         texts = texts_without([self])
-        for path, line in lemmas:
+        for path, line, wants_nothing in lemmas:
             text = texts.get(f"crates/{path}") or text_of("crates", path)
-            row, said = text.split("\n")[int(line) - 1], conclusion_of(text, int(line))
-            if not re.search(rf"(?<!let )\b{self.label} =", row) and not self.words & said:
+            row = text.split("\n")[line - 1]
+            keeps = re.search(rf"\b{self.label} =", row) and f".{self.label}" not in row
+            if not keeps and not wants_nothing and not self.words & conclusion_of(text, line):
                 found.append(f"{path}:{line}")
         return found
 

@@ -6,11 +6,15 @@ PROVED = re.compile(r"(?m)^fn (\S+): proved")
 UNPROVED = re.compile(r"(?m)^fn (\S+): (?:not proved|no proof)(.*)")
 IN_A_PROOF = re.compile(
     r"(\w+/(?:proofs|specs)/[\w/]+)\.antt:(\d+):\d+: error: "
-    r"(?!\d+ declarations? that depends? on )(?:`([^`]+)`)?"
+    r"(?!\d+ declarations? that depends? on )(?:`([^`]+)`)?(.*)"
 )
 OF_A_FUNCTION = "Answers", "Invariants", "Proof"  # the files of its own proof
 # A goal that isn't about what the function returns: a premise of a call, or what a value holds.
 BESIDE = re.compile(r"-requires\b|^invariant_of-")
+# An error says so if `⊤` was to be proved.
+WANTS_NOTHING = re.compile(
+    r"expected type `Rattle\.core\.specs\.Bool\.⊤`|`Unit \{0\}` \(expected\)"
+)
 LEMMA = re.compile(r"(?:pub )?(?:abbrev )?([^\s:]+) :")
 
 
@@ -22,14 +26,14 @@ def proved(output):
 def unproved(output):
     """Returns the functions and the lemmas that the kit's output says aren't proved, without those
     of which only what they name isn't: of each function, whether a goal is among these that isn't
-    about what it returns; of each lemma, a path and a line."""
+    about what it returns; of each lemma, a path and a line, and whether `⊤` was to be proved."""
     goals_in, lemmas, functions = {}, [], {}
-    for path, line, goal in IN_A_PROOF.findall(output):
+    for path, line, goal, why in IN_A_PROOF.findall(output):
         folder, _, file = path.rpartition("/")
         if file in OF_A_FUNCTION:
             goals_in.setdefault(folder, []).append(goal)
         else:
-            lemmas.append((f"{path}.antt", line))
+            lemmas.append((f"{path}.antt", int(line), bool(WANTS_NOTHING.search(why))))
     for symbol, why in UNPROVED.findall(output):
         folder = symbol.replace("::", "/proofs/", 1).replace("::", "/")
         _, searched, names = why.partition("`search` did not prove")

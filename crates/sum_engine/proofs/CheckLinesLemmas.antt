@@ -119,7 +119,7 @@ module _ {I : Type 0} (state : I → InputState) (first : CheckerValue I) (m : S
         consumed = (step.going refl).1.consumed ∙ along.consumed;
       }) in
       let reads : ReadsToEndIf (next.verdicts.counts.unread ≡ 0) m.inputs o.inputs =
-      reads_then (λ none. search (arith, step.unread, none)) h.reads step.reads in
+      reads_then (λ none. search (arith, none)) h.reads step.reads in
       search (rules, arith, happened, reads, step)
 
   -- the check of this content, whose behavior is `all`, ended or stopped with x once the input had given so many bytes
@@ -191,5 +191,5 @@ module _ {I : Type 0} (state : I → InputState) (first : CheckerValue I) (m : S
                 ((reading going).past, λ good. (reading going).end (step.advances.end (good_at good).0));
             same = search rules;
             cause = cause_ends x h.so_far step.cause;
-            reads = reads_then (λ good. search (arith, step.unread, (good_at good).1)) h.reads step.reads;
+            reads = reads_then (λ good. search (arith, (good_at good).1)) h.reads step.reads;
           }

@@ -143,7 +143,6 @@ module _ {I : Type 0} {state : I → InputState} {p q : CheckerValue I} {a b : S
     -- the call took a step of the check
     pub step_taken : TakesStep state vector p q a b x
     step_taken =
-        let unread : p.verdicts.counts.unread ≤ q.verdicts.counts.unread = search (rules, arith) in
         let not_unread : q.verdicts.counts.unread ≡ p.verdicts.counts.unread → IsNotUnread found =
         search (rules, arith) in
         record {
@@ -157,7 +156,6 @@ module _ {I : Type 0} {state : I → InputState} {p q : CheckerValue I} {a b : S
           lines = λ going.
               let (v, is) = going_found q.verdicts p.labels vector found a.outputs b.outputs (rw going at wrote) in
               did.number v is;
-          unread = unread;
           reads = reads_weaker not_unread did.reads;
           good = λ good. good_found q.verdicts p.labels vector found a.outputs b.outputs (rw good at wrote);
         }

@@ -22,7 +22,8 @@ ghost use Rattle.sum_settings.specs.declared.settings.Report.TheVariants.{All};
 ghost use Rattle.sum_settings.specs.declared.stop.Stop.TheVariants.{Memory, Write};
 ghost use Rattle.sum_sources.specs.LineReader.{IsReading, reads_of, remaining_content};
 ghost use Rattle.sum_sources.specs.ManifestLines.{HasNoNewline, lines, raw_lines};
-ghost use Rattle.sum_sources.specs.declared.{fault.Ending.TheVariants.Whole, inputs.input.TheConstants.PIECE};
+ghost use Rattle.sum_sources.specs.declared.fault.{Ending.TheVariants.Whole, Fault.Fault};
+ghost use Rattle.sum_sources.specs.declared.inputs.input.TheConstants.{PIECE};
 ghost use Rattle.sum_sources.specs.inputs.Input.{Content, Reads, clip, Fits};
 ghost use Rattle.sum_sources.specs.sources.Source.{times, result_at};
 
@@ -116,6 +117,20 @@ pub fn check_while_written<A: Allocator + Copy, S: Source, O: Sink, E: Sink>(
         × Happened streams.old between (trace done)
         × PerformsSteps {A = ⊤} (next ∷ []) tt between streams.new (Err Write)
         × (length r.bytes + remaining_before later ≤ length (clip c).bytes + PIECE) }
+{
+    check_one(alloc, settings, "md5sum", name, streams)
+}
+
+/// Checks a manifest. If it can't be opened, memory runs out only if the source was refused it.
+pub fn check_unopened<A: Allocator + Copy, S: Source, O: Sink, E: Sink>(
+    alloc: A,
+    settings: CheckSettings,
+    name: &[u8],
+    streams: &mut Streams<S, O, E>,
+) -> Result<bool, Stop>
+    ensures { result ≡ Err Memory → (w : World) → Agrees w streams.new.inputs → (f : Fault)
+        → answer_to (world_at w streams.old.inputs) name.now ≡ Err f
+        → streams.new.inputs.refusals ≡ streams.old.inputs.refusals + 1 }
 {
     check_one(alloc, settings, "md5sum", name, streams)
 }

@@ -80,8 +80,7 @@ pub record TakesStep {I : Type 0} (state_of : I → InputState) (vector : ByteSt
       × (RefusesMemory before.inputs after.inputs
       ⊎ ((after.inputs ≡ before.inputs) × (0 < length new.verdicts.reader.ahead)))
   pub lines : result ≡ Ok Going → new.verdicts.reader.lines ≡ old.verdicts.reader.lines + 1
-  -- a file that could not be opened or read is counted; any other was read to its end
-  pub unread : old.verdicts.counts.unread ≤ new.verdicts.counts.unread
+  -- what was opened was read to its end, unless its line is counted as unread
   pub reads : ReadsToEndIf (new.verdicts.counts.unread ≡ old.verdicts.counts.unread) before.inputs after.inputs
   -- the manifest is good only if no line is left, and each listed file was read to its end
   pub good : result ≡ Ok (Ended true) → (found ≡ Ok None) × (new.verdicts.counts.unread ≡ 0)
