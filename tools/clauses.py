@@ -261,10 +261,13 @@ def check(kept, names, cases=(), only=()):
             (sources.parent / path).write_text(text, "utf-8")
         how = {"cwd": own, "stdin": subprocess.DEVNULL, "stderr": subprocess.STDOUT}
         ran = subprocess.run(command, stdout=subprocess.PIPE, **how)
+        said = ran.stdout.decode(errors="replace")
+        if "\ncrate all: " not in said:
+            sys.exit(f"{said}clauses.py: a check broke off")
         if not cases and ran.returncode == 0:
             shutil.rmtree(kept, ignore_errors=True)
             shutil.move(own / "out/incremental", kept)
-        return ran.stdout.decode(errors="replace")
+        return said
 
 
 @functools.lru_cache(maxsize=None)

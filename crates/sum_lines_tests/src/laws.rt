@@ -4,8 +4,9 @@ ghost use Rattle.digest_kinds.specs.declared.algo.Algos.{Algos, TheVariants.Any}
 ghost use Rattle.std.specs.Prelude.{◌≡◌, ◌≤◌, Bool, false, List, ◌∷◌, [], length};
 ghost use Rattle.sum_lines.specs.Escape.{escape};
 ghost use Rattle.sum_lines.specs.declared.reading.read_line.Form.{Form, TheVariants.Undecided};
-ghost use Rattle.sum_lines.specs.grammar.{Entries.EntryValue, Entries.IsEntry, Form.IsForm, LineLaws.IsWritable};
-ghost use Rattle.sum_lines.specs.grammar.{LineLaws.SpellsBack, ParsedLines.entry, ParsedLines.parse_line};
+ghost use Rattle.sum_lines.specs.grammar.{Entries.EntryValue, Entries.IsEntry, Form.IsForm, LineLaws.FitsGrammar};
+ghost use Rattle.sum_lines.specs.grammar.LineLaws.{IsWritable, SpellsBack};
+ghost use Rattle.sum_lines.specs.grammar.ParsedLines.{ParsedLine, entry, parse_line};
 ghost use Rattle.sum_lines.specs.{grammar.Shapes.IsTagged, sinks.Output.pieces, writing.DigestLine.line};
 ghost use Rattle.sum_settings.specs.declared.style.{Mode.TheVariants.Tag, Style.Style};
 
@@ -40,6 +41,14 @@ pub fn same_form()
 pub fn entry_is_computed()
     ensures { (algos : Algos) (f : Form) (line : ByteString) (s : EntryValue)
         → IsEntry escape algos f line s → parse_line algos f line ≡ entry s }
+{
+    laws::parse_is_grammar();
+}
+
+/// Nothing fits the grammar of a line but what is computed.
+pub fn computed_alone_fits()
+    ensures { (algos : Algos) (f : Form) (line : ByteString) (said : ParsedLine)
+        → FitsGrammar algos f line said → said ≡ parse_line algos f line }
 {
     laws::parse_is_grammar();
 }
