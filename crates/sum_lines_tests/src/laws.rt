@@ -1,12 +1,13 @@
 //! What follows from the laws of lines.
 ghost use Rattle.digest_kinds.specs.{Bytes.ByteString, Kind.KindValue};
 ghost use Rattle.digest_kinds.specs.declared.algo.Algos.{Algos, TheVariants.Any};
-ghost use Rattle.std.specs.Prelude.{◌≡◌, ◌≤◌, Bool, false, List, ◌∷◌, [], length};
+ghost use Rattle.std.specs.{Prelude.◌≡◌, Prelude.◌≤◌, Prelude.Bool, Prelude.false, Prelude.List, Prelude.◌∷◌};
+ghost use Rattle.std.specs.{Prelude.[], Prelude.length, Str.byte};
 ghost use Rattle.sum_lines.specs.Escape.{escape};
 ghost use Rattle.sum_lines.specs.declared.reading.read_line.Form.{Form, TheVariants.Undecided};
 ghost use Rattle.sum_lines.specs.grammar.{Entries.EntryValue, Entries.IsEntry, Form.IsForm, LineLaws.FitsGrammar};
 ghost use Rattle.sum_lines.specs.grammar.LineLaws.{IsWritable, SpellsBack};
-ghost use Rattle.sum_lines.specs.grammar.ParsedLines.{ParsedLine, entry, parse_line};
+ghost use Rattle.sum_lines.specs.grammar.ParsedLines.{ParsedLine, entry, ignored, parse_line};
 ghost use Rattle.sum_lines.specs.{grammar.Shapes.IsTagged, sinks.Output.pieces, writing.DigestLine.line};
 ghost use Rattle.sum_settings.specs.declared.style.{Mode.TheVariants.Tag, Style.Style};
 
@@ -45,13 +46,11 @@ pub fn entry_is_computed()
     laws::parse_is_grammar();
 }
 
-/// Nothing fits the grammar of a line but what is computed.
-pub fn computed_alone_fits()
-    ensures { (algos : Algos) (f : Form) (line : ByteString) (said : ParsedLine)
-        → FitsGrammar algos f line said → said ≡ parse_line algos f line }
-{
-    laws::parse_is_grammar();
-}
+/// By the grammar alone, a line that begins with `#` is ignored.
+pub fn comment_is_ignored()
+    ensures { (algos : Algos) (f : Form) (text : ByteString) (said : ParsedLine)
+        → FitsGrammar algos f (byte "#" ∷ text) said → said ≡ ignored }
+{}
 
 /// A line of at most 8,192 bytes is offered whole.
 pub fn line_is_one_piece()
