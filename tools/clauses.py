@@ -5,9 +5,10 @@ It empties each clause of a public call, and each field of a record of statement
 clause leads: it puts `⊤` in its place. Then a few of the functions are proved that call what makes
 the promise, for several clauses at once if no function calls two of them. A promise that this
 doesn't find missed is emptied alone: its callers are proved, crate by crate, and then all else. It
-is missed if a function isn't proved any more that doesn't have to keep it itself, or a lemma that
-doesn't conclude it. With words, only those are tried whose names have one of them. Results are kept
-in out/clauses as long as no source changes, so a run that was ended goes on where it stopped."""
+is missed if a function isn't proved any more that doesn't have to keep it itself, or that needs it
+for something else besides, or a lemma that doesn't conclude it. With words, only those are tried
+whose names have one of them. Results are kept in out/clauses as long as no source changes, so a run
+that was ended goes on where it stopped."""
 
 import functools
 import hashlib

@@ -15,7 +15,7 @@ BESIDE = re.compile(r"-requires\b|^invariant_of-")
 WANTS_NOTHING = re.compile(
     r"expected type `Rattle\.core\.specs\.Bool\.⊤`|`Unit \{0\}` \(expected\)"
 )
-LEMMA = re.compile(r"(?:pub )?(?:abbrev )?([^\s:]+) :")
+LEMMA = re.compile(r"\s*(?:pub )?(?:abbrev )?([^\s:({]+) :")
 
 
 def proved(output):
@@ -51,7 +51,7 @@ def conclusion_of(text, line):
     name = LEMMA.match(rows[start])
     statement = rows[start : start + 1]
     for row in rows[start + 1 :]:
-        if not row or name and row.startswith(f"{name[1]} "):
+        if not row or name and row.lstrip().startswith(f"{name[1]} "):
             break
         statement.append(row)
     concluded = " ".join(statement).rpartition(" → ")[2]

@@ -2,7 +2,7 @@
 ghost use Rattle.digest_kinds.specs.{Bytes.ByteString, Kind.KindValue};
 ghost use Rattle.std.specs.Prelude.{◌≡◌, ◌≢◌, ◌<◌, ◌≤◌, ◌+◌, ◌*◌, ◌⊎◌, ℕ, Bool, true, false, IsTrue, None, Some, Ok};
 ghost use Rattle.std.specs.Prelude.{Err, IfErr, List, [], ◌∷◌, ◌++◌, codes, length, take, ⊤, flat_map, slice_range};
-ghost use Rattle.std.specs.Prelude.{slice_index_or, map};
+ghost use Rattle.std.specs.Prelude.{IfOk, IfSome, slice_index_or, map};
 ghost use Rattle.sum_engine.specs.Behavior.{Step, World, answer_to, trace};
 ghost use Rattle.sum_engine.specs.Execution.{Agrees, AsksNames, Happened, PerformsSteps, opened_names, world_at};
 ghost use Rattle.sum_engine.specs.{Execution.ReadsToEndIf, Execution.RefusesMemory, Generate.generate_behavior};
@@ -152,14 +152,17 @@ pub fn takes_line<A: Allocator, I: Input, S: Source>(
     matches!(verdicts.next(line, inputs), Ok(Some(_)))
 }
 
-/// Finds the next verdict. What was opened was read to its end, unless the verdict is that it could not be.
+/// Finds the next verdict, of one more line. What was opened was read to its end, unless the verdict is that it could
+/// not be.
 pub fn reads_whole_files<A: Allocator, I: Input, S: Source>(
     verdicts: &mut Verdicts<I>,
     line: &mut Vec<u8, A>,
     inputs: &mut Inputs<S>,
 ) -> Result<Option<LineVerdict>, LineStop>
     requires going { verdicts.old.outcome ≡ None }
-    ensures { ReadsToEndIf (IsNotUnread result) inputs.old inputs.new }
+    ensures lines { IfOk result (λ found. IfSome found (λ v.
+        verdicts.new.reader.lines ≡ verdicts.old.reader.lines + 1)) }
+    ensures reads { ReadsToEndIf (IsNotUnread result) inputs.old inputs.new }
 {
     verdicts.next(line, inputs)
 }
