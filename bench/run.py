@@ -39,8 +39,8 @@ def built_programs():
     are stale."""
     if subprocess.run([os.path.join(TOP, "tools", "build")]).returncode:
         sys.exit(1)
-    found = sorted(glob.glob(os.path.join(TOP, "out", "*", "digests")))
-    return {path.split(os.sep)[-2]: path for path in found if works([path, "sha256sum"])}
+    paths = sorted(glob.glob(os.path.join(TOP, "out", "*", "digests")))
+    return {path.split(os.sep)[-2]: path for path in paths if works([path, "sha256sum"])}
 
 
 def built_bare():
@@ -92,18 +92,20 @@ class Bench:
 
     def contenders(self, tool, *words, status=0):
         """Ours, and GNU's where it is installed, with the same words."""
-        found = [
+        contenders = [
             Contender(name, [path, tool, *words], status=status) for name, path in self.ours.items()
         ]
-        return found + ([Contender(GNU, [tool, *words], gnu(tool), status)] if gnu(tool) else [])
+        return contenders + (
+            [Contender(GNU, [tool, *words], gnu(tool), status)] if gnu(tool) else []
+        )
 
     def hashers(self, tool):
         """Returns all contenders that hash standard input as the tool does."""
-        found = self.contenders(tool)
+        contenders = self.contenders(tool)
         if self.bare and tool in self.looped:
-            found.append(Contender(BARE, [self.bare, tool]))
+            contenders.append(Contender(BARE, [self.bare, tool]))
         words = ["openssl", "dgst", "-blake2b512" if tool == "b2sum" else f"-{tool[:-3]}"]
-        return found + ([Contender(OPENSSL, words)] if works(words) else [])
+        return contenders + ([Contender(OPENSSL, words)] if works(words) else [])
 
     def large(self):
         """Returns a file of the size that was asked for."""
@@ -196,8 +198,10 @@ def files(bench):
             stdout=bench.out,
         )
         for words in (("-c",), ("-c", "--status")):
-            found = bench.contenders(tool, *words, bench.manifest(tool))
-            bench.add(f"`{tool} {' '.join(words)}`, 200,000 lines", found, rounds, stdout=bench.out)
+            contenders = bench.contenders(tool, *words, bench.manifest(tool))
+            bench.add(
+                f"`{tool} {' '.join(words)}`, 200,000 lines", contenders, rounds, stdout=bench.out
+            )
 
 
 def reading(bench):
@@ -218,8 +222,8 @@ def reading(bench):
         with open(manifest, "w") as file:
             file.write(text)
         words = ["-c", *words, "--status"]
-        found = bench.contenders("sha256sum", *words, manifest, status=1)
-        bench.add(f"`sha256sum {' '.join(words)}`, {lines}", found, rounds * bench.rounds)
+        contenders = bench.contenders("sha256sum", *words, manifest, status=1)
+        bench.add(f"`sha256sum {' '.join(words)}`, {lines}", contenders, rounds * bench.rounds)
 
 
 def memory(bench):
@@ -233,12 +237,13 @@ def memory(bench):
         ("`md5sum`, 100,000 operands", "md5sum", ["a"] * 100000),
         ("`md5sum -c`, 200,000 lines", "md5sum", ["-c", bench.manifest("md5sum")]),
     ):
-        found = bench.contenders(tool, *words)
+        contenders = bench.contenders(tool, *words)
         peaks = [
-            peak_memory(contender, stdout=bench.out, folder=bench.folder) for contender in found
+            peak_memory(contender, stdout=bench.out, folder=bench.folder)
+            for contender in contenders
         ]
         rows.append([work, *(f"{peak / 1e6:.1f}" for peak in peaks)])
-    table(["megabytes at most", *(contender.name for contender in found)], rows)
+    table(["megabytes at most", *(contender.name for contender in contenders)], rows)
 
 
 PARTS = {"hashing": hashing, "start": start, "files": files, "reading": reading, "memory": memory}

@@ -30,6 +30,7 @@ end
 # This file may be read once for each of these names.
 for name in digests @NAMES@
     complete -c $name -e
+    complete -c $name -n '__digests_takes any; and string match -q -- "--*=*" (commandline -ct)' -f
 @FISH@
 end
 complete -c digests -n __digests_wants_tool -f -a '@TOOLS@'

@@ -17,8 +17,11 @@ import sys
 import time
 import unittest
 
-HERE = os.path.dirname(os.path.abspath(__file__))
-sys.path[:0] = [HERE, os.path.join(HERE, "support"), os.path.join(os.path.dirname(HERE), "tools")]
+HERE = os.path.dirname(os.path.realpath(__file__))
+# The first of these is tools/, so that no test can take the place of what the tools read, and none
+# is there twice: Python itself put the folder of this file first.
+FOLDERS = [os.path.join(os.path.dirname(HERE), "tools"), HERE, os.path.join(HERE, "support")]
+sys.path[:1] = FOLDERS
 sys.dont_write_bytecode = True
 
 import harness  # it is in support/
@@ -62,8 +65,8 @@ def run_over(program, asked, again):
     harness.PROGRAM = program
     harness.gnu.cache_clear()
     started = time.monotonic()
-    found = unittest.defaultTestLoader.discover(HERE, pattern="test_*.py")
-    chosen = unittest.TestSuite(tests_below(found, asked.only, again))
+    every = unittest.defaultTestLoader.discover(HERE, pattern="test_*.py")
+    chosen = unittest.TestSuite(tests_below(every, asked.only, again))
     if not chosen.countTestCases():
         return None
     print(f"{program}: the seed of what is tried at random is {harness.SEED}", flush=True)

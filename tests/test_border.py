@@ -7,7 +7,7 @@ import glob
 import os
 import re
 
-from believed import code
+from claims import code
 from compiled import (
     LIBRARIES,
     around_command,
@@ -18,8 +18,10 @@ from compiled import (
     callers_of,
     ours,
     reached,
+    records,
 )
-from harness import Case
+from definitions import taken_names
+from harness import Case, Ran
 from sources import TOP, code_of, crates_of_program, files, dependencies, text_of, tokens_of
 
 
@@ -40,8 +42,8 @@ IN_PARTS = {name.split("::")[0] for name in PURE if "::" in name}
 STACK = 128 * 1024
 
 # The modules whose names a contract or a definition may use: definitions, ours and the kit's, the
-# kit's `std`, and the kit's logic. A crate of ours is below `Rattle` alone.
-WORDS = re.compile(r"\A(?:Rattle\.(?:\w+\.specs|std)|denote|std)\.")
+# kit's `std`, and one of the kit's logic, which a law's proof uses.
+WORDS = re.compile(r"\A(?:Rattle\.(?:\w+\.specs|std)|std\.HLevel)\.")
 USE, ELSEWHERE = re.compile(r"\buse\s+([^\s{;]*)"), re.compile(r"\b(?:Rattle|denote|package)\b")
 
 
@@ -118,11 +120,11 @@ def counted(row, rows):
     return collections.Counter(["the row", *rows[row]] if row in rows else [])
 
 
-def differences(found, listed):
+def differences(listing, listed):
     """Yields how rows differ from those that are listed: for each, a line of what is new, and one
     of what is gone."""
-    for row in sorted({*found, *listed}):
-        now, before = counted(row, found), counted(row, listed)
+    for row in sorted({*listing, *listed}):
+        now, before = counted(row, listing), counted(row, listed)
         for change, names in (("new", now - before), ("gone", before - now)):
             if names:
                 yield f"{row}: {change}: {'; '.join(names.elements())}"
@@ -147,8 +149,8 @@ class Border(Case):
     def test_rows(self):
         """What tests/border.txt lists, row by row."""
         names = sorted(names_of_ours() & names_of_kit())
-        found = {**kit_rows(), **border_rows(), **main_rows(), "names": names}
-        if changes := [*differences(found, LISTED)]:
+        now = {**kit_rows(), **border_rows(), **main_rows(), "names": names}
+        if changes := [*differences(now, LISTED)]:
             self.fail("\n".join(["", *changes, "If this is meant, put it into tests/border.txt."]))
 
     def test_letters(self):
@@ -157,13 +159,17 @@ class Border(Case):
         wrong = [item.symbol for item in code().called if not item.name[0].isupper()]
         self.assertEqual(wrong, [], "rename these")
 
+    def test_names_of_crates(self):
+        """No module of the code has the name of a crate, or of a module of the kit's `std`."""
+        symbols = [symbol.split("::") for crate in ("core", "std") for symbol in records(crate)]
+        of_std = {name for _, name, *_ in symbols}
+        modules = {name for file in code().files for name in file.modules}
+        self.assertEqual(modules & (taken_names() | of_std), set(), "rename these")
+
     def test_what_git_has(self):
         """Git has no file where builds keep what they made: a library there could be of other
         sources. And no link leads out of the sources."""
-        built = self.run_command(["git", "ls-files", "out", "*/out", "*/out/*"], cwd=TOP)
-        self.assertEqual(built.out, b"", "take these out of git")
-        links = self.run_command(["find", "crates", "-type", "l"], cwd=TOP)
-        self.assertEqual(links.out, b"", "remove these links")
+        self.assertEqual(self.run_command(["tools/guard"], cwd=TOP), Ran(0, b"", b""))
 
     def test_destructors(self):
         """Each is derived. No contract speaks of what a written one does when `main` ends."""
@@ -178,14 +184,14 @@ class Border(Case):
         main = f"crates/{crates_of_program()[-1]}"
         script = """cp -R --parents "$0" crates.txt "$1"
             for folder in crates/*/src crates/*/specs crates/*/proofs crates/*/out/rlib; do
-                cp -Rl --parents "$folder" "$1" 2>/dev/null || cp -R --parents "$folder" "$1"; done
-            find "$1" -name proved -execdir mv {} stamp \\;"""  # so that rt takes these libraries
+                cp -Rl --parents "$folder" "$1" 2>/dev/null || cp -R --parents "$folder" "$1"
+            done"""
         self.run_command(["sh", "-c", script, main, self.folder], cwd=TOP)
         command = ["rt", "run", "--backend", "rattle", "--", "sha256sum"]
         ran = self.run_command(command, cwd=self.path(main))
-        found = re.search(rb" stack-bytes=(\d+) ", ran.err)
-        self.assertTrue(found, ran.err[-900:])
-        self.assertLessEqual(int(found[1]), STACK)
+        noted = re.search(rb" stack-bytes=(\d+) ", ran.err)
+        self.assertTrue(noted, ran.err[-900:])
+        self.assertLessEqual(int(noted[1]), STACK)
 
     def test_code_that_is_not_seen(self):
         """What the compiled code doesn't tell apart: files that are read as it is made, and raw
@@ -193,8 +199,8 @@ class Border(Case):
         words = {"unsafe", "extern", "include", "include_bytes", "include_str"}
         for crate, file, path in files("src", ".rt"):
             if crate in LIBRARIES:
-                found = words & {token.text for token in tokens_of(path)}
-                self.assertEqual(found, set(), f"take these out of {crate}/src/{file}.rt")
+                used = words & {token.text for token in tokens_of(path)}
+                self.assertEqual(used, set(), f"take these out of {crate}/src/{file}.rt")
 
     def test_words(self):
         """Contracts and definitions name none of a proof's definitions, which may say anything."""

@@ -126,6 +126,17 @@ class Zsh(Typed, Case):
 class Fish(Shell, Case):
     shell = "fish"
 
+    def test_values(self):
+        """No file is the value of an option, in whatever way it is spelled."""
+        for words in (
+            "b2sum --length=",
+            "b2sum --len=",
+            "md5sum --length=",
+            "digests anysum --tag=",
+        ):
+            with self.subTest(words=words):
+                self.assertFalse([word for word in self.offered(words) if "some" in word])
+
     def offered(self, line):
         command = "source $argv[1]/digests.fish; complete -C $argv[2]"
         env = {

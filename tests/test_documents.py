@@ -5,12 +5,14 @@ import os
 import re
 
 import believed
-import harness
+import claims
 import library
-from compiled import LIBRARIES, clauses, ours, reached, symbol
+from claims import code, specs
+from compiled import LIBRARIES, around_command, clauses, home, ours, reached, symbol
 from harness import Case, Ran, as_bytes
 from rattle import Code
-from sources import TOP, files, text_of
+from sources import TOP, below, dependencies, files, text_of
+from test_border import border_rows
 from texts import ok
 
 
@@ -25,46 +27,86 @@ class Documents(Case):
 
     def test_what_is_believed(self):
         self.compare(believed.pages(), "tools/believed.py --write")
-        self.assertEqual(believed.misplaced() + believed.defined_twice(), [])
+        self.assertEqual(believed.wrong(), [])
 
     def test_what_is_read(self):
         """The clauses, and the names that are imported for them, are those that the kit proves."""
-        found = set()
+        read = set()
         for file in Code().files:
-            found |= {(file.crate, clause.text) for clause in file.clauses}
+            read |= {(file.crate, clause.text) for clause in file.clauses}
             for row in file.rows:
                 _, _, imported = row.partition("ghost use ")
                 if imported:
-                    found.add((file.crate, imported[:-1]))
-        self.assertEqual(found, {(crate, text) for crate, _, text in clauses()})
+                    read.add((file.crate, imported[:-1]))
+        self.assertEqual(read, {(crate, text) for crate, _, text in clauses()})
 
     def test_contracts_that_are_quoted(self):
         """docs/PROMISES.md shows the clauses of `run` and of `command` as they are."""
         shown = re.sub(r"(?m)^ +//.*\n|^ +", "", text_of("docs", "PROMISES.md"))
         for name in ("run", "command"):
             text = Code().function("digests", name).text
-            contract = re.sub(r"(?m)^ +", "", text[text.index("ensures") :])
+            contract = re.sub(r"(?m)^ +//.*\n|^ +", "", text[text.index("    ensures") :])
             with self.subTest(function=name):
                 self.assertTrue(contract in shown, f"put this into docs/PROMISES.md:\n{contract}")
 
+    def test_theorems(self):
+        """docs/PROMISES.md names each theorem once, in brackets, and nothing else stands there."""
+        page, there = text_of("docs", "PROMISES.md"), []
+        for crate, _, path in files("src", ".rt"):
+            if crate == "theorems":
+                there += re.findall(r"(?m)^pub fn (\w+)", text_of(path))
+        named = []
+        for names in re.findall(r"\[(`\w+`(?:, `\w+`)*)\]", page):
+            named += re.findall(r"\w+", names)
+        self.assertEqual(sorted(named), sorted(there))
+        for name in there:
+            self.assertEqual(page.count(f"`{name}`"), 1, name)
+
     def test_where_definitions_are(self):
-        """docs/ARCHITECTURE.md names each file of definitions without a file of code of its
-        name."""
-        code = {(crate, path) for crate, path, _ in files("src", ".rt")}
-        for crate, path, _ in files("specs", ".antt"):
-            name = path.split("/")[-1]
-            of_code = re.sub("(?<=[a-z0-9])(?=[A-Z])", "_", path).lower()
-            is_list = name == "Lib" or os.path.isdir(
-                os.path.join(TOP, "crates", crate, "specs", path)
-            )
-            if crate in LIBRARIES and not is_list and not path.startswith("private/"):
-                shown = path.split("/")[0] if path.startswith("grammar/") else name
-                with self.subTest(crate=crate, file=path):
-                    self.assertTrue(
-                        (crate, of_code) in code
-                        or name.endswith("Laws")
-                        or f"`{shown}`" in text_of("docs", "ARCHITECTURE.md")
+        """A file of definitions is about the file of code of its name, or it is in the table of
+        docs/ARCHITECTURE.md, or its crate's laws are about it."""
+        for module in specs().modules.values():
+            if module.definitions and not module.file.startswith("private/"):
+                folder, _, name = module.file.rpartition("/")
+                shown = "grammar" if folder == "grammar" else name
+                with self.subTest(crate=module.crate, file=module.file):
+                    in_table = f"`{shown}`" in self.exceptions(module.crate)
+                    self.assertNotEqual(
+                        self.has_code(module), in_table or name.endswith("Laws") and name != "Laws"
                     )
+
+    def exceptions(self, crate):
+        """Returns what the table of docs/ARCHITECTURE.md says of the files of a crate."""
+        page = text_of("docs", "ARCHITECTURE.md")
+        rows = re.findall(r"(?m)^\|((?:`\w+`(?:, )?)+)\|(.*)\|.*\|$", page)
+        return "\n".join(files for crates, files in rows if f"`{crate}`" in crates)
+
+    def has_code(self, module):
+        """Returns whether a file of definitions is about the file of code of its name: a contract
+        there cites one of them, or they are about a type that it declares."""
+        path = re.sub("(?<=[a-z0-9])(?=[A-Z])", "_", module.file).lower()
+        here = {*module.definitions.values()}
+        for item in code().items:
+            if (item.crate, item.file) == (module.crate, f"{path}.rt"):
+                if here & claims.cited([item, *item.members]):
+                    return True
+        made = f"Rattle.{module.crate}.specs.declared.{path.replace('/', '.')}."
+        return any(f"{origin}.".startswith(made) for origin, _ in module.imports.values())
+
+    def test_what_may_call_what(self):
+        """docs/LIBRARY.md says of each library what it may call, and which others these need, as
+        crates.txt does."""
+
+        def listed(crates):
+            return ", ".join(f"`{crate}`" for crate in crates) or "none"
+
+        rows = re.findall(r"(?m)^\|\[`(\w+)`\].*\|(.*)\|(.*)\|$", text_of("docs", "LIBRARY.md"))
+        wanted = []
+        for crate in LIBRARIES:
+            called = dependencies()[crate]
+            others = [other for other in below(crate) if other not in called]
+            wanted.append((crate, listed(called), listed(others)))
+        self.assertEqual(rows, wanted)
 
     def test_wrong_versions(self):
         """The table of docs/TESTING.md has each wrong version once, in a row of its crate."""
@@ -82,14 +124,21 @@ class Documents(Case):
         )
 
     def test_a_second_audit(self):
-        """The command of docs/AUDITING.md names the files of the border."""
-        audit = re.search(r"(?m)^    git diff OLD .*\$\((.*)\)$", text_of("docs", "AUDITING.md"))
-        ran = self.run_command(["sh", "-c", audit[1]], cwd=TOP)
-        wanted = {
-            b"crates/digests/src/standard_input.rt",
-            b"crates/sum_sources/src/system/errors.rt",
-        }
-        self.assertLessEqual(wanted, set(ran.out.split()))
+        """The commands of docs/AUDITING.md show the theorems, the pages of the libraries, all that
+        is outside the crates, and in these the border, its callers, `main`, and what runs before
+        and after `command`."""
+        commands = re.findall(r"(?m)^    git diff OLD -- (.*)$", text_of("docs", "AUDITING.md"))
+        pages = "crates/theorems/src 'crates/*/CALLING.md'"
+        self.assertEqual(commands[:2], [pages, ". ':!crates'"])
+        ran = self.run_command(["git", "ls-files", *commands[2].split()], cwd=TOP)
+        shown = {path for path in ran.out.decode().splitlines() if path.endswith(".rt")}
+        rows = border_rows()
+        modules = {home(name) for name in (*around_command(), *rows["callers"])}
+        wanted = {"crates/digests_main/src/main.rt"}
+        for file in code().files:
+            if file.module in modules or f"file {file.crate} {file.file}" in rows:
+                wanted.add(f"crates/{file.crate}/src/{file.file}")
+        self.assertEqual(shown, wanted)
 
     def test_the_libraries(self):
         """The page of each library has each public call as the kit has read it."""
@@ -142,7 +191,7 @@ class Documents(Case):
             self.skipTest("nothing is built")
         packaging = text_of("docs", "PACKAGING.md")
         command = re.search(r"(?m)^    (grep .* CHANGELOG\.md .*)$", packaging)[1]
-        command = command.replace("./digests", f"'{harness.PROGRAM}'")
+        self.assertNotIn("digests", command, "the program is checked by another")
         ran = self.run_command(["sh", "-c", command], cwd=TOP)
         if ran.status and "  out/" not in newest:
             self.skipTest("the programs that are built aren't those that CHANGELOG listed last")

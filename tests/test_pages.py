@@ -6,7 +6,7 @@ import re
 import harness
 from harness import NAMES, Case
 from manual import sections_of
-from options import takes
+from options import options_of, takes
 from reference import REASONS
 from texts import bad
 
@@ -84,12 +84,12 @@ class Said(Case):
 
     def test_each(self):
         for tool in harness.TOOLS:
-            found = set()
+            shown = set()
             for line in self.said_by(tool):
                 fitting = [mark for mark in self.marks() if re.fullmatch(mark, line)]
                 self.assertNotEqual(fitting, [], line)
-                found.update(fitting)
-            missing = [mark for mark in self.marks() if mark not in found]
+                shown.update(fitting)
+            missing = [mark for mark in self.marks() if mark not in shown]
             self.assertEqual(
                 [re.sub(r"\W", "", mark) for mark in missing],
                 [
@@ -99,3 +99,9 @@ class Said(Case):
                     "thismachinelacksafeatureofx8664v3",
                 ],
             )
+
+    def test_a_line_of_another_form(self):
+        """A line of a help that lists no option is named."""
+        self.write_command("other", "#!/bin/sh\nprintf 'usage\\n\\n  strange line\\n'\n")
+        with self.assertRaisesRegex(SystemExit, "md5sum --help .*: '  strange line'"):
+            options_of(self.path("commands/other").decode(), "md5sum")

@@ -141,12 +141,12 @@ class AtRandom(Case):
         name = self.a_name()
         content = self.files.get(name, b"") + self.random.choice([b""] * 9 + [b"!"])
         mode = self.random.choice(["text", "binary", "tag", "tag", "reversed"])
-        found = reference.digest(tag, size, content)
-        line = reference.line(mode, False, tag, name.encode(), found).removesuffix(b"\n")
+        of_content = reference.digest(tag, size, content)
+        line = reference.line(mode, False, tag, name.encode(), of_content).removesuffix(b"\n")
         if mode == "reversed":
             line = line.replace(b"  ", b" ", 1)
         if self.random.random() < 0.2:
-            line = line.replace(found.hex().encode(), found.hex().upper().encode())
+            line = line.replace(of_content.hex().encode(), of_content.hex().upper().encode())
         for _ in range(self.random.choice([0, 0, 0, 1, 1, 2, 3])):
             start = self.random.randint(0, len(line))
             line = (

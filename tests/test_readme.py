@@ -9,7 +9,7 @@ import socket
 
 import harness
 from harness import NAMES, Case, Ran, as_bytes
-from manual import PAGES
+from manual import PAGES, sections_of
 from repository import Repository
 from sources import TOP, text_of
 from texts import version
@@ -40,12 +40,18 @@ class Limits(Case):
                 re.findall(r"`([^`]*sha256sum[^`]*)`", section("Limits")), (b"", empty)
             ):
                 with self.subTest(command=command):
-                    ran = self.run_command(
-                        ["sh", "-c", command.replace("FILE", '"$0"'), b"\xff"], stdin, env=env
-                    )
+                    words = ["bash", "-c", command.replace("FILE", '"$0"'), b"\xff"]
+                    ran = self.run_command(words, stdin, env=env)
                     self.assertEqual(
                         ran.out.decode(), f"{hashlib.sha256(record).hexdigest()}  -\n", command
                     )
+        folder = os.open(self.folder, os.O_RDONLY)  # of which no read succeeds
+        self.addCleanup(os.close, folder)
+        for page in (section("Limits"), sections_of("digests")["LIMITS"]):
+            command = re.search(r"(?:\([^(`]*)?dd [^`]*?sha256sum\)?", " ".join(page.split()))[0]
+            with self.subTest(command=command):
+                ran = self.run_command(["bash", "-c", command], folder, env=env)
+                self.assertEqual(ran.status, 1)
 
 
 class Stranger(Repository):

@@ -140,12 +140,12 @@ class Reasons(Case):
         """The definitions have just the C library's texts, and the code is proved to have the
         definitions'. Each line of the table ends with the number whose text is its first."""
         definitions = text_of("crates", "sum_sources", "specs", "Fault.antt")
-        found = []
+        quoted = []
         for line in re.search(r"(?s)\nreason_table = (.*?)\n\n", definitions)[1].splitlines():
-            self.assertEqual(line.partition("  -- ")[2], str(len(found)))
-            found += re.findall(r'"(.*?)" ∷', line)
+            self.assertEqual(line.partition("  -- ")[2], str(len(quoted)))
+            quoted += re.findall(r'"(.*?)" ∷', line)
         self.assertEqual(
-            {number: text.encode() for number, text in enumerate(found) if text}
+            {number: text.encode() for number, text in enumerate(quoted) if text}
             | {errno.ENOENT: NOT_FOUND, errno.EACCES: REASONS[errno.EACCES]},
             REASONS,
         )

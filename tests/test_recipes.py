@@ -6,9 +6,9 @@ import os
 import re
 import shutil
 
-from harness import NAMES, TOOLS, as_bytes, hasher
+from harness import TOOLS, as_bytes, hasher
 from manual import sections_of
-from recipes import BOTH, GOOD, IMAGE, OF_BASH, SHELLS, Typed, line_of, recipes_of
+from recipes import BOTH, GOOD, IMAGE, MADE, OF_BASH, SHELLS, Typed, line_of, recipes_of
 from texts import failed, ok, unreadable
 
 BAD = [
@@ -24,15 +24,16 @@ BAD = [
 class Recipes(Typed):
     def setUp(self):
         super().setUp()
-        self.replace_gpg_and_pv()
+        self.replace_gpgv_and_pv()
 
-    def report(self, sort, verdict):
-        """Returns what a check writes of image.iso, by its verdict: `ok` or `failed`."""
-        name = {"check": "image.iso", "check by pv": "-"}.get(sort, "./image.iso")
-        # These say only what doesn't match.
-        if sort == "check names" or verdict == ok and sort.startswith("check list"):
-            return b"" if verdict == ok else b"./image.iso\0"
-        return as_bytes([verdict(name)] * (2 if sort == "check" else 1))
+    def report(self, sort):
+        """Returns what a recipe writes if all is well: most say only what doesn't match."""
+        names = {
+            "check": ["image.iso"] * 2,
+            "check gpg": ["./image.iso"],
+            "check one": ["./image.iso"],
+        }
+        return as_bytes([ok(name) for name in names.get(sort, ())])
 
     def test_shells(self):
         """Each recipe is typed in bash, and in the others unless it says that it is for bash."""
@@ -53,9 +54,7 @@ class Recipes(Typed):
         os.mkfifo(self.path("here/some folder/pipe"))
         for recipe, sort, shell in self.each_recipe():
             with self.subTest(recipe=recipe):
-                self.passes(
-                    recipe, self.report(sort, ok) if sort.startswith("check") else b"", shell
-                )
+                self.passes(recipe, self.report(sort), shell)
                 if sort.startswith("list"):
                     self.expect_lines(
                         "SUMS",
@@ -63,10 +62,12 @@ class Recipes(Typed):
                     )
                 elif sort.startswith("write"):
                     self.expect_lines(
-                        "image.sum",
-                        BOTH if sort == "write at once" else [line_of("sha256sum", b"-", IMAGE)],
+                        MADE[sort],
+                        BOTH
+                        if sort == "write at once"
+                        else [line_of("sha256sum", b"image.iso", IMAGE)],
                     )
-                self.expect_only("image.sum")
+                self.expect_only("image.sum", "image.tagged")
 
     def test_files_that_cannot_be_read(self):
         """A list without them never gets its name, and a whole one of before stays."""
@@ -87,7 +88,7 @@ class Recipes(Typed):
         self.fails(self.recipe("not UTF-8"))
         self.restore("sed")
         for recipe, sort, shell in self.each_recipe("check list", "check list on all", "check one"):
-            self.passes(recipe, self.report(sort, ok), shell)
+            self.passes(recipe, self.report(sort), shell)
         self.make()
         self.passes(self.recipe("list"))
         more = BAD + [b"./more\nlines", b"./more\\"]
@@ -97,32 +98,67 @@ class Recipes(Typed):
         ran = self.type(self.recipe("unlisted"))
         self.assertEqual((ran.status, ran.out.splitlines(), ran.err), (1, wanted, b""))
 
-    def test_nothing_there(self):
-        """Nothing passes in an empty tree but that its names are UTF-8."""
-        for recipe, sort, shell in self.each_recipe():
-            self.make(good=False)
-            (self.passes if sort == "not UTF-8" else self.fails)(recipe, shell=shell)
-
-    def test_a_changed_file(self):
-        """Each check reports a changed file; and those of a whole list, any other file."""
+    def test_a_directory_that_looks_like_an_option(self):
+        """That for temporary files."""
         self.make()
+        os.mkdir(self.path("here/-rf"))
+        self.env["TMPDIR"] = "-rf"
         for recipe, sort, shell in self.each_recipe():
-            self.put("image.iso", IMAGE)
-            if sort.startswith(("write", "list")):
-                self.passes(recipe, shell=shell)
-            if not sort.startswith("check"):
-                continue
-            self.put("image.iso", IMAGE[:-1])
-            ran = self.fails(recipe, shell)
-            self.assertEqual((ran.status, ran.out), (1, self.report(sort, failed)), recipe)
-            self.put("image.iso", IMAGE)
-            if sort.startswith("check list"):
-                self.put("-x", "changed")
-                self.assertEqual(self.fails(recipe, shell).out, as_bytes([failed("./-x")]))
-                os.remove(self.path("here/-x"))
-                self.assertEqual(self.fails(recipe, shell).out, as_bytes([unreadable("./-x")]))
-                self.put("-x", "-x")
-                self.passes(recipe, shell=shell)
+            with self.subTest(recipe=recipe):
+                self.assertEqual(self.type(recipe, shell)[::2], (0, b""))
+
+    def test_what_is_no_file(self):
+        """The page has a command for links, pipes and devices, which no recipe lists or reports,
+        even if a link to equal bytes takes the place of a listed file."""
+        command = re.search(
+            r"find \. [^-]*-type f [^-]*-type d", sections_of("digests")["EXAMPLES"]
+        )
+        self.make()
+        self.passes(self.recipe("list"))
+        os.rename(self.path("here/a b"), self.path("here/.moved"))
+        os.symlink(".moved", self.path("here/a b"))
+        os.symlink("nothing", self.path("here/some folder/link"))
+        os.mkfifo(self.path("here/\n"))
+        self.passes(self.recipe("check list"))
+        self.assertEqual(self.fails(self.recipe("unlisted")).out, b"./.moved\n")
+        ran = self.type(f"{command[0]} -print0")
+        wanted = [b"", b"./\n", b"./SUMS.asc", b"./a b", b"./some folder/link"]
+        self.assertEqual(sorted(ran.out.split(b"\0")), wanted)
+
+    def test_in_zsh(self):
+        """A recipe for bash does the same in zsh, also for an image that has as many newlines as
+        its list."""
+        for image in (b"a\nb\n", IMAGE) if shutil.which("zsh") else ():
+            self.make()
+            self.put("image.iso", image)
+            for recipe, sort in recipes_of("digests"):
+                if OF_BASH.search(recipe):
+                    with self.subTest(recipe=recipe):
+                        self.passes(recipe, shell="zsh")
+                        made = self.read(f"here/{MADE.get(sort, 'SUMS')}")
+                        self.passes(recipe)
+                        self.expect_lines(MADE.get(sort, "SUMS"), made.splitlines(keepends=True))
+
+    def test_names_that_are_lost(self):
+        """A command that writes nothing if a name isn't UTF-8, as `tr` of some makers does, or
+        leaves out that name, hides no file that isn't listed."""
+        all_or_none = "LC_ALL=C.UTF-8 usual grep -aqvxz '.*' input && exit"
+        without_it = "LC_ALL=C.UTF-8 usual grep -axz '.*' input >some; usual mv some input"
+        self.make()
+        self.passes(self.recipe("list"))
+        for more in ([b"\xff"], [b"\xff", "planted"]):
+            for name in more:
+                self.put(name)
+            for command, words in (("tr", "*"), ("sed", "-z*")):
+                for part in (all_or_none, without_it):
+                    self.command(
+                        command,
+                        f'case "$*" in {words}) ;; *) real "$@"; exit ;; esac\n'
+                        f'cd "${{0%/*}}"; usual cat >input; {part}; real "$@" <input',
+                    )
+                    with self.subTest(command=command, part=part):
+                        self.fails(self.recipe("unlisted"))
+                self.restore(command)
 
     def test_names_as_they_are(self):
         """Those of files that don't match, in any locale, and even if they look like reports or
@@ -153,7 +189,7 @@ class Recipes(Typed):
                     ("\ufeff", ""),
                     (f"\ufeff{tag}(", ")= "),
                     (f"{tag:5} (".replace("2b", "2"), ") = "),
-                    (re.sub("SHA(?!1)", "SHA2-", tag).replace("b", "B-512") + "(", ")= "),
+                    (re.sub("SHA-?(?!1)", "SHA2-", tag).replace("b", "B-512") + "(", ")= "),
                 ):
                     line = (
                         f"{front}{name}{back}{digest}\n" if back else f"{front}{digest}  {name}\n"
@@ -173,59 +209,3 @@ class Recipes(Typed):
         self.put("image.iso", IMAGE)
         self.passes(self.recipe("list"))
         self.passes(self.recipe("check one"), as_bytes([ok("./image.iso")]))
-
-
-class Examples(Typed):
-    def each_tool(self):
-        """Yields each tool with a new tree, and the lines that come with downloads: of the image,
-        and of another file."""
-        for tool in NAMES:
-            self.make()
-            other = "b2sum" if tool == "anysum" else tool
-            yield tool, [
-                line_of(other, name, IMAGE, tool == "anysum")
-                for name in (b"image.iso", b"other.iso")
-            ]
-
-    def test_good(self):
-        for tool, lines in self.each_tool():
-            wanted = {"anysum": BOTH}.get(tool, lines[:1])
-            if tool == "b2sum":
-                wanted = [
-                    self.run_words(["b2sum", "-l", "256"], IMAGE).out.replace(b"-", b"image.iso")
-                ]
-            for recipe, sort, shell in self.each_recipe(page=tool):
-                with self.subTest(recipe=recipe):
-                    if sort == "check download":
-                        self.put(recipe.split()[-1], b"".join(lines))
-                        self.passes(recipe, as_bytes([ok("image.iso")]), shell)
-                        os.remove(self.path(f"here/{recipe.split()[-1]}"))
-                    elif sort == "check":
-                        self.passes(recipe, as_bytes([ok("image.iso")] * len(wanted)), shell)
-                    else:
-                        self.passes(recipe, shell=shell)
-                        self.expect_lines("image.sum", wanted)
-                    self.expect_only("image.sum")
-
-    def test_bad(self):
-        """A changed file fails, and so does a list that isn't read whole, though all that is read
-        matches: a mark precedes its first line, or a tag is no tool's."""
-        for tool, (line, _) in self.each_tool():
-            for recipe, sort, shell in self.each_recipe("check", "check download", page=tool):
-                for first in (b"\xef\xbb\xbf" + line, b"SHA2-256 (image.iso) = 00\n"):
-                    self.put(recipe.split()[-1], first + line)
-                    self.assertEqual(self.fails(recipe, shell).out, as_bytes([ok("image.iso")]))
-                self.put("image.iso", IMAGE[:-1])
-                self.put(recipe.split()[-1], line)
-                self.assertEqual(self.fails(recipe, shell).out, as_bytes([failed("image.iso")]))
-                self.put("image.iso", IMAGE)
-
-    def test_nothing_there(self):
-        for tool, _ in self.each_tool():
-            for recipe, sort, shell in self.each_recipe(page=tool):
-                with self.subTest(recipe=recipe):
-                    self.make(good=False)
-                    self.fails(recipe, shell)
-                    if sort.startswith("check"):
-                        self.put(recipe.split()[-1], "")
-                        self.assertEqual(self.fails(recipe, shell).out, b"")

@@ -9,7 +9,7 @@ import signal
 import subprocess
 
 from harness import RUN_SECONDS, limit
-from recipes import BOTH, IMAGE, Typed, commands_of, line_of
+from recipes import BOTH, IMAGE, MADE, Typed, commands_of, line_of
 
 NAMES = ["image.iso", "a b", "-x", "new\nline", "back\\slash", "some folder/c"]
 
@@ -24,19 +24,13 @@ ENDS = (
 )
 
 CHANGES = (
-    ': >SUMS; : >image.sum; real "$@"',
-    'usual rm -f SUMS image.sum; real "$@"',
+    ': >SUMS; : >image.sum; : >image.tagged; real "$@"',
+    'usual rm -f SUMS image.sum image.tagged; real "$@"',
     'usual rm -f image.iso a*; real "$@"',
 )
 
-# The list that a recipe makes; and those of its commands whose status is lost, because their output
-# is looked at, or because all is done before.
-MADE = {
-    "list": "SUMS",
-    "list on all": "SUMS",
-    "write by pv": "image.sum",
-    "write at once": "image.sum",
-}
+# The recipes that make a list; and those of their commands whose status is lost, because their
+# output is looked at, or because all is done before.
 UNHEARD = {
     "list": {"rm"},
     "list on all": {"rm", "nproc"},
@@ -60,11 +54,12 @@ CHECKS = (
 class Parts(Typed):
     def setUp(self):
         super().setUp()
-        self.replace_gpg_and_pv()
+        self.replace_gpgv_and_pv()
         self.make(good=False, more=NAMES)
         self.put("image.iso", IMAGE)
         self.put("SUMS", b"".join(self.lines_of_the_tree()))
         self.put("image.sum", BOTH[0])
+        self.put("image.tagged", BOTH[0])
 
     def make_bad(self):
         """Makes a tree in which nothing passes a check: the image has changed, a file isn't listed,
@@ -76,7 +71,7 @@ class Parts(Typed):
         """Returns the lines of the list that a recipe makes."""
         if sort.startswith("list"):
             return self.lines_of_the_tree()
-        return BOTH if sort == "write at once" else [line_of("sha256sum", b"-", IMAGE)]
+        return BOTH if sort == "write at once" else [line_of("sha256sum", b"image.iso", IMAGE)]
 
     def expect_old_or_new(self, sort, status):
         """Expects a list that is new and whole; or the one of before, if the status says so."""
@@ -93,31 +88,25 @@ class Parts(Typed):
                     self.command(command, script)
                     yield recipe, sort, shell, command
                 self.restore(command)
-                self.replace_gpg_and_pv()
-
-    def test_a_command_of_a_check(self):
-        self.make_bad()
-        for recipe, _, shell, command in self.each_script(ENDS, *CHECKS):
-            with self.subTest(recipe=recipe):
-                self.assertNotEqual(self.type(recipe, shell).status, 0, command)
+                self.replace_gpgv_and_pv()
 
     def test_a_command_that_makes_a_list(self):
-        for recipe, sort, shell, command in self.each_script(ENDS, *MADE):
+        for recipe, sort, shell, command in self.each_script(ENDS, *UNHEARD):
             self.put(MADE[sort], "of before")
             status = self.type(recipe, shell).status
             self.assertTrue(status or command in UNHEARD[sort], command)
             self.expect_old_or_new(sort, status)
 
-    def test_a_change(self):
-        """Just before a command runs, the list is emptied or removed, or a file vanishes."""
+    def test_a_command_of_a_check(self):
+        """It fails, or just before it runs, the list is emptied or removed, or a file vanishes."""
         self.make_bad()
         here, saved = self.path("here"), self.path("saved")
         shutil.copytree(here, saved, symlinks=True)
-        for recipe, _, shell, command in self.each_script(CHANGES, *CHECKS):
+        for recipe, _, shell, command in self.each_script(ENDS + CHANGES, *CHECKS):
             with self.subTest(recipe=recipe):
                 self.assertNotEqual(self.type(recipe, shell).status, 0, command)
-                shutil.rmtree(here)
-                shutil.copytree(saved, here, symlinks=True)
+            shutil.rmtree(here)
+            shutil.copytree(saved, here, symlinks=True)
 
     def test_a_file_that_vanishes(self):
         """It vanishes just before a command runs: a list is of the tree as it was before that, or
@@ -136,16 +125,33 @@ class Parts(Typed):
                 command,
             )
 
+    def test_another_run(self):
+        """What a run has begun that still runs, or was killed, isn't listed by another one."""
+        for recipe, sort, shell in self.each_recipe(*UNHEARD):
+            with self.subTest(recipe=recipe):
+                before = self.files_of_the_tree()
+                for command, script in (("mv", "exit 1"), ("rm", "exit 0")):
+                    self.command(command, script)
+                self.assertNotEqual(self.type(recipe, shell).status, 0)
+                begun = self.files_of_the_tree().keys() - before.keys()
+                self.assertEqual(len(begun), 1)
+                self.restore("mv")
+                self.restore("rm")
+                os.remove(self.path("here/SUMS"))
+                self.passes(recipe if sort.startswith("list") else self.recipe("list"), shell=shell)
+                for path in begun:
+                    os.remove(os.path.join(self.path("here"), path))
+                self.expect_lines("SUMS", self.lines_of_the_tree())
+
     def test_what_asks(self):
         """At a terminal, a list that can't be written to is replaced, and no directory stays, even
         if aliases ask."""
         here = self.path("here")
         os.chmod(here, 0o777)
-        for recipe, sort, shell in self.each_recipe(*MADE, "check gpg"):
+        for recipe, sort, shell in self.each_recipe(*UNHEARD):
             for aliases in ("", "alias rm='rm -i' mv='mv -i'; "):
-                if sort in MADE:
-                    self.put(MADE[sort], "of before")
-                    os.chmod(self.path(f"here/{MADE[sort]}"), 0o444)
+                self.put(MADE[sort], "of before")
+                os.chmod(self.path(f"here/{MADE[sort]}"), 0o444)
                 before = sorted(os.listdir(here))
                 answers, terminal = map(os.fdopen, pty.openpty(), ("wb", "rb"))
                 words = [
@@ -161,35 +167,32 @@ class Parts(Typed):
                         [*words, recipe], terminal, cwd=here, env=self.env, **self.nobody()
                     )
                 self.assertEqual((ran.status, sorted(os.listdir(here))), (0, before), aliases)
-                if sort in MADE:
-                    self.expect_old_or_new(sort, status=0)
+                self.expect_old_or_new(sort, status=0)
 
     def test_no_space(self):
         """There is none for reports, for a list that is copied, or for one that is made."""
-        for recipe, _, shell in self.each_recipe("check", "check by pv", "check gpg", "check one"):
+        for recipe, _, shell in self.each_recipe("check", "check gpg", "check one"):
             self.fails(recipe, shell, stdout=self.full())
         self.make_bad()
         for recipe, _, shell in self.each_recipe(*CHECKS):
             self.fails(recipe, shell, stdout=self.full())
         os.remove(self.path(b"here/not listed\xff"))
-        for recipe, sort, shell in self.each_recipe(*MADE, "check gpg"):
+        for recipe, sort, shell in self.each_recipe(*UNHEARD):
             with self.subTest(recipe=recipe):
-                self.put(MADE.get(sort, "image.sum"), "of before")
+                self.put(MADE[sort], "of before")
                 self.fails(recipe, shell, preexec_fn=limit("FSIZE", 40))
-                self.assertEqual(self.read(f"here/{MADE.get(sort, 'image.sum')}"), b"of before")
+                self.assertEqual(self.read(f"here/{MADE[sort]}"), b"of before")
 
     def test_the_end_of_a_run(self):
         """A list of before is as it was, and nothing temporary is left, unless nothing could be
         removed any more."""
         here = self.path("here")
-        for recipe, sort, shell in self.each_recipe(*MADE, "check gpg"):
-            command = {"write by pv": "pv", "write at once": "tee", "check gpg": "gpg"}.get(
-                sort, "find"
-            )
+        for recipe, sort, shell in self.each_recipe(*UNHEARD):
+            command = {"write by pv": "pv", "write at once": "tee"}.get(sort, "find")
             begun = self.path(f"commands/{command}.begun")
             for number in (signal.SIGHUP, signal.SIGINT, signal.SIGTERM, signal.SIGKILL):
                 self.command(command, f': >"$0.begun"; exec sleep {RUN_SECONDS}')
-                self.put(MADE.get(sort, "image.sum"), "of before")
+                self.put(MADE[sort], "of before")
                 before = sorted(os.listdir(here))
                 started = subprocess.Popen(
                     [shell, "-c", recipe],
@@ -207,5 +210,5 @@ class Parts(Typed):
                         lambda: sorted(os.listdir(here)) == before,
                         f"{number} leaves nothing of {recipe}",
                     )
-                self.assertEqual(self.read(f"here/{MADE.get(sort, 'image.sum')}"), b"of before")
+                self.assertEqual(self.read(f"here/{MADE[sort]}"), b"of before")
                 os.remove(begun)

@@ -9,7 +9,7 @@ import types
 
 import harness
 import reference
-from recipes import Typed, line_of
+from recipes import MADE, Typed, line_of
 from sources import TOP
 from texts import failed
 
@@ -67,7 +67,7 @@ class AtRandom(Typed):
     def setUp(self):
         super().setUp()
         self.command("pv", 'exec cat "$@"')
-        self.command("gpg", 'exec cat >"$2"')  # which accepts any list
+        self.command("gpgv", "exec cat")  # which accepts any list
         self.addCleanup(os.chdir, TOP)
 
     def change_a_file(self):
@@ -113,7 +113,7 @@ class AtRandom(Typed):
                 self.change_a_file()
             self.put("image.iso", image := self.random.choice(CONTENTS))
             self.lists = {
-                "check by pv": line_of("sha256sum", b"-", image),
+                "check by pv": line_of("sha256sum", b"image.iso", image),
                 "SUMS": b"".join(self.lines_of_the_tree()),
                 "check": b"".join(
                     line_of(tool, b"image.iso", image, True) for tool in ("sha256sum", "b2sum")
@@ -127,11 +127,11 @@ class AtRandom(Typed):
             yield seed, not changes + damages and all(map(is_text, self.files_of_the_tree()))
 
     def is_good(self, tool, content):
-        """Returns whether a list has a line, all are proper, and all files match, the image being
-        standard input."""
+        """Returns whether a list has a line, all are proper, and all files match."""
         self.write("list", content)
-        world = reference.World(self.read("here/image.iso") if self.is_there("image.iso") else b"")
-        return reference.checked(tool, STRICT, [self.path("list")], world).status == 0
+        return (
+            reference.checked(tool, STRICT, [self.path("list")], reference.World(b"")).status == 0
+        )
 
     def is_done(self, sort):
         """Returns whether all that a recipe of this sort is for is good, or was done."""
@@ -142,18 +142,24 @@ class AtRandom(Typed):
             return is_whole and all(map(is_text, files))
         if sort.startswith("write"):
             made = (
-                [line_of("sha256sum", b"-", image)]
+                [line_of("sha256sum", b"image.iso", image)]
                 if sort == "write by pv"
                 else [line_of(tool, b"image.iso", image, True) for tool in ("sha256sum", "b2sum")]
             )
-            return sorted(self.read("here/image.sum").splitlines(keepends=True)) == sorted(made)
+            return sorted(self.read(f"here/{MADE[sort]}").splitlines(keepends=True)) == sorted(made)
         if sort == "check one":
-            found = {text for text in texts if re.fullmatch(rb"[0-9a-f]*  \./image\.iso", text)}
-            return found == {line_of("sha256sum", b"./image.iso", image)[:-1]}
+            lines_of_image = {
+                text for text in texts if re.fullmatch(rb"[0-9a-f]*  \./image\.iso", text)
+            }
+            return lines_of_image == {line_of("sha256sum", b"./image.iso", image)[:-1]}
         if sort == "unlisted":
             lines = [re.fullmatch(rb"(\\?)[0-9a-f]+ [ *](.+)", text, re.DOTALL) for text in texts]
             names = {reference.unescape(line[2]) if line[1] else line[2] for line in lines if line}
             return set(files) <= names and not reference.is_reversed("SHA256", texts)
+        if sort == "check by pv":
+            return image is not None and self.lists[sort] == line_of(
+                "sha256sum", b"image.iso", image
+            )
         if sort == "not UTF-8":
             return all(map(is_text, files))
         if sort == "check list of others":
@@ -167,9 +173,9 @@ class AtRandom(Typed):
             for recipe, sort, shell in self.each_recipe():
                 self.put("SUMS", self.lists["SUMS"])
                 if sort in self.lists:
-                    self.put("image.sum", self.lists[sort])
+                    self.put(recipe.strip(")").split()[-1], self.lists[sort])
                 status = self.type(recipe, shell).status
                 self.assertTrue(status or self.is_done(sort), recipe)
                 self.assertFalse(status and is_as_meant, recipe)
-                if self.is_there("image.sum"):
-                    os.remove("image.sum")
+                for made in filter(self.is_there, MADE.values()):
+                    os.remove(made)

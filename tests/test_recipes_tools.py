@@ -1,4 +1,4 @@
-"""Recipes that call gpg or pv, with the real ones: what is signed or not signed, and what can't be
+"""Recipes that call gpgv or pv, with the real ones: what is signed or not signed, and what can't be
 read."""
 
 import os
@@ -12,26 +12,29 @@ from texts import failed, ok
 
 
 class Signed(Typed):
-    """There are two signers, each with keys in a directory of their own. A reader has the key of
-    the first."""
+    """There are two signers, each with keys in a directory of their own. A reader trusts
+    the key of the first, has that of the second, and takes whatever comes with a signature."""
 
     OUT = as_bytes([ok("./-x"), ok("./a b"), ok("./image.iso")])
 
     def setUp(self):
         super().setUp()
-        if shutil.which("gpg") is None or shutil.which("gpgconf") is None:
-            self.skipTest("gpg or gpgconf isn't installed")
+        if None in map(shutil.which, ("gpg", "gpgconf", "gpgv")):
+            self.skipTest("gpg, gpgconf or gpgv isn't installed")
         self.make(good=False, more=["a b", "-x"])
         self.put("image.iso", IMAGE)
         os.remove(self.path("here/SUMS.asc"))
         self.lines = self.lines_of_the_tree()
-        for name in ("signer", "other", "reader"):
+        for name in ("signer", "other", "stranger", "reader"):
             os.mkdir(self.path(name), 0o700)
             self.addCleanup(
                 self.run_command, ["gpgconf", "--homedir", self.path(name), "--kill", "all"]
             )
             self.gpg(name, "--quick-generate-key", name, "future-default", "default", "never")
-        self.gpg("reader", "--import", stdin=self.gpg("signer", "--export"))
+        for name in ("signer", "other"):
+            self.gpg("reader", "--import", stdin=self.gpg(name, "--export"))
+        self.write("reader/gpg.conf", "auto-key-import\n")
+        self.write("reader/signer.gpg", self.gpg("signer", "--export"))
         self.env["GNUPGHOME"] = os.fsdecode(self.path("reader"))
         self.signed = self.gpg("signer", "--clear-sign", stdin=b"".join(self.lines))
 
@@ -48,7 +51,11 @@ class Signed(Typed):
         and what SUMS.asc holds."""
         whole = b"".join(self.lines)
         stored = self.gpg("other", "--armor", "--store", stdin=whole)
-        yield "by a key that the reader hasn't", self.gpg("other", "--clear-sign", stdin=whole)
+        yield "by another key that the reader has", self.gpg("other", "--clear-sign", stdin=whole)
+        yield "by a key that the reader hasn't", self.gpg("stranger", "--clear-sign", stdin=whole)
+        yield "by a key that comes with it", self.gpg(
+            "stranger", "--include-key-block", "--clear-sign", stdin=whole
+        )
         yield "not signed", whole
         yield "stored without a signature", self.gpg("other", "--store", stdin=whole)
         yield "stored without a signature, as text", stored
@@ -141,7 +148,7 @@ class Shown(Typed):
         for recipe, _, shell in self.each_recipe("write by pv", "check by pv"):
             with self.subTest(recipe=recipe):
                 self.assertEqual(self.type(recipe, shell).status, 0)
-        self.expect_lines("image.sum", [line_of("sha256sum", b"-", IMAGE)])
+        self.expect_lines("image.sum", [line_of("sha256sum", b"image.iso", IMAGE)])
         for change in (
             "rm image.iso",
             "mkdir image.iso",
@@ -152,7 +159,9 @@ class Shown(Typed):
                 with self.subTest(recipe=recipe):
                     self.put(
                         "image.sum",
-                        line_of("sha256sum", b"-", b"") if sort == "check by pv" else "of before",
+                        line_of("sha256sum", b"image.iso", b"")
+                        if sort == "check by pv"
+                        else "of before",
                     )
                     self.fails(recipe, shell)
                     self.assertEqual(

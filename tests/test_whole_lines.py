@@ -71,7 +71,7 @@ class OneWriteALine(Packets):
         self.expect_packets("sha256sum", out=[f"{SHA256_OF_ABC}  -\n"], stdin=self.opened("a"))
         self.write(SPECIAL, "abc")
         for tool, (tag, of_nothing, of_abc) in TOOLS.items():
-            found = {
+            digests = {
                 name: bytes.fromhex(digits)
                 for name, digits in (("a", of_abc), ("e", of_nothing), (SPECIAL, of_abc))
             }
@@ -86,9 +86,9 @@ class OneWriteALine(Packets):
                 with self.subTest(style=style):
                     lines = [
                         line(mode, "z" in style, tag, name.encode(), digest)
-                        for name, digest in found.items()
+                        for name, digest in digests.items()
                     ]
-                    self.expect_packets([tool, *style.split(), *found], out=lines)
+                    self.expect_packets([tool, *style.split(), *digests], out=lines)
 
     def test_help_and_faults_of_the_words(self):
         for tool in NAMES:

@@ -19,11 +19,12 @@ from pathlib import Path
 
 sys.dont_write_bytecode = True  # nothing is to be left beside these files
 
+import copies
+from copies import at_once, copy, put
 from sources import TOP, below, crates_of_program
 
 OUT = Path(TOP, "out", "checks")
 LIBRARIES = crates_of_program()[:-1]
-KB_OF_A_CHECK = 3_000_000
 TWINS_IN_A_CHECK = 16  # at most, if they fit together
 
 
@@ -97,16 +98,6 @@ def groups_of(crate, twins):
     return groups
 
 
-def copy(folder, names, target):
-    """Copies what there is of these names below a folder, by hard links if possible."""
-    names = [name for name in names if Path(folder, name).exists()]
-    for how in ("-al", "-a"):
-        command = ["cp", how, "--parents", *names, target]
-        if subprocess.run(command, cwd=folder, stderr=subprocess.DEVNULL).returncode == 0:
-            return
-    sys.exit(f"checks.py: {folder} can't be copied to {target}: is there room for it?")
-
-
 def copy_crates(names, folder):
     """Makes a repository of these crates alone, with the libraries that were made of them."""
     lines = Path(TOP, "crates.txt").read_text("utf-8").splitlines(keepends=True)
@@ -116,38 +107,17 @@ def copy_crates(names, folder):
         target = Path(folder, "crates", name)
         os.makedirs(target)
         copy(Path(TOP, "crates", name), ["src", "specs", "proofs", "out/rlib"], target)
-        proved = target / "out/rlib/proved"
-        if proved.exists():
-            proved.rename(target / "out/rlib/stamp")  # so that `rt` takes the library
 
 
 def check(crate, texts, *flags, kept=None):
-    """Checks a copy of a crate with these texts in place of its own, over what a check has kept; if
-    nothing was kept, this one keeps its work. Returns what the kit says, and whether the crate is
-    proved. Two copies never wait for each other, and none is below the repository, where `rt` would
-    find its crates."""
+    """Checks a copy of a crate with these texts in place of its own, over what was kept; if nothing
+    was, this check keeps its work. Returns what the kit says, and whether the crate is proved."""
     with tempfile.TemporaryDirectory(prefix="digests-check-") as folder:
         copy_crates([*below(crate), crate], folder)
         own = Path(folder, "crates", crate)
-        if kept and kept.is_dir():
-            (own / "out/incremental").mkdir(parents=True)
-            copy(kept, ["."], own / "out/incremental")
-        for path, text in texts.items():
-            (own / path).unlink()  # or the text would change the original, too
-            (own / path).write_text(text, "utf-8")
-        ran = subprocess.run(
-            ["rt", "check", "--jobs", "1", *flags],
-            cwd=own,
-            stdin=subprocess.DEVNULL,
-            stdout=subprocess.PIPE,
-            stderr=subprocess.STDOUT,
-            text=True,
-            errors="replace",
-        )
-        made = own / "out/incremental"
-        if kept and made.is_dir() and not kept.is_dir():
-            shutil.move(made, kept)
-        return ran.stdout, ran.returncode == 0
+        put(texts, own)
+        keeps = kept is not None and not kept.is_dir()
+        return copies.check(own, ["--jobs", "1", *flags], kept, keeps)
 
 
 def is_accepted(crate, edit, kept):
@@ -191,12 +161,6 @@ def failures_of(crate, twins, pool):
     return [failure for ended in tried for failure in ended.result()]
 
 
-def lanes():
-    """Returns how many checks run at once: as many as there are processors and memory for."""
-    free = int(re.search(r"MemAvailable: *(\d+)", Path("/proc/meminfo").read_text("utf-8"))[1])
-    return max(1, min(len(os.sched_getaffinity(0)), free // KB_OF_A_CHECK))
-
-
 def state_of(crate):
     """Returns a sum of all that the checks of a crate read, and of the kit."""
     version = subprocess.run(["rt", "version"], stdout=subprocess.PIPE, check=True).stdout
@@ -226,7 +190,7 @@ def main(words):
     changed = [crate for crate in crates if "--anew" in words or not is_unchanged(crate)]
     twins = {crate: twins_of(crate) for crate in changed}
     status = 0
-    with ThreadPoolExecutor(lanes()) as pool, ThreadPoolExecutor(len(crates)) as waiting:
+    with ThreadPoolExecutor(at_once()) as pool, ThreadPoolExecutor(len(crates)) as waiting:
         tried = [waiting.submit(failures_of, crate, twins[crate], pool) for crate in changed]
         for crate, ended in zip(changed, tried):
             failures = ended.result()
@@ -238,4 +202,6 @@ def main(words):
 
 
 if __name__ == "__main__":
+    if {"-h", "--help"} & {*sys.argv[1:]}:
+        sys.exit(print(__doc__))
     sys.exit(main(sys.argv[1:]))

@@ -13,9 +13,9 @@ import itertools
 import json
 import os
 import re
-import sys
 
-from sources import TOP, closure, crates_of_program, kit
+import lanes
+from sources import all_reached, crates_of_program
 
 # All but the program's own crate, which has `main` alone, and isn't kept as a library.
 LIBRARIES = crates_of_program()[:-1]
@@ -33,6 +33,18 @@ WORDS = set(
 """.split()
 )
 BEFORE_A_SYMBOL = {"Fn", "Impl", "name", "Struct"}
+# What the kit has written of each function, in `mir.json`; and of modules, a line each, in
+# `made.json`: the line begins with what it is.
+OF_A_FUNCTION = {"body", "generics", "lifetimes", "locals", "outlives", "params", "types"}
+KIND = re.compile(r'\{"(\w+)":')
+KINDS = set(
+    """
+    BoundOf Carried Close Code ConstantsOf Contract CrossingOf GhostsOf Given ImplGoals ImplLaws
+    ImplMeets ImplMet ImplProof ImplStatement ImplValues Key Kinds LawsOf Layout LinkOfCrate
+    LinkOfFunction LinkPassed Lts MadeProof Met Mir Named Needs PairOfBody Parent Parts PartsOfType
+    ReachOf Read StandsFor Statement Symbol TypeOf ValueOf VariantsOf WaysBack ways
+""".split()
+)
 
 
 def is_symbol(key, text):
@@ -84,23 +96,14 @@ class Function:
 
 def library(crate):
     """Returns the folder of what the kit has made of a crate of ours or of its own."""
-    if crate in LIBRARIES:
-        return f"{TOP}/crates/{crate}/out/rlib/{crate}.rlib"
-    return f"{kit()}/rlibs/{crate}.rlib"
+    return lanes.library(crate, crate in LIBRARIES)
 
 
 @functools.lru_cache(maxsize=None)
 def check_libraries():
     """Fails if a library isn't of what its sources are now."""
-    sys.path.append(f"{kit()}/bin")
-    import rtlib  # the kit's own, which knows from what a library was made
-
-    def is_fresh(crate):
-        proved = rtlib.text_of(f"{crate.folder}/out/rlib/proved")  # written by tools/prove.py
-        return crate.is_built() or proved == crate.stamp()
-
-    crates = [crate for crate in rtlib.crates_below(TOP) if crate.name in LIBRARIES]
-    if stale := [crate.name for crate in crates if not is_fresh(crate)]:
+    crates = [crate for crate in lanes.crates().values() if crate.name in LIBRARIES]
+    if stale := [crate.name for crate in crates if not crate.is_built()]:
         raise ValueError(
             f"{', '.join(stale)} isn't proved and built from what the sources are now: "
             "./digests does it"
@@ -112,10 +115,12 @@ def records(crate):
     """Returns what the kit has written of a crate's functions, by their symbols."""
     gc.disable()
     with open(f"{library(crate)}/toolchain/mir.json", encoding="utf-8") as file:
-        found = dict(json.load(file))
+        by_symbol = dict(json.load(file))
     gc.freeze()  # or Python goes through all of this, again and again
     gc.enable()
-    return found
+    if strange := [name for name, record in by_symbol.items() if record.keys() != OF_A_FUNCTION]:
+        raise ValueError(f"the kit has written of {strange[0]} what isn't known here")
+    return by_symbol
 
 
 @functools.lru_cache(maxsize=None)
@@ -129,11 +134,11 @@ def function(name):
 def ours():
     """Returns the functions of the program's libraries, by their symbols."""
     check_libraries()
-    found = {name: function(name) for crate in LIBRARIES for name in records(crate)}
-    for of_ours in found.values():
+    functions = {name: function(name) for crate in LIBRARIES for name in records(crate)}
+    for of_ours in functions.values():
         if unknown := of_ours.words - WORDS:
             raise ValueError(f"{of_ours.name} has {unknown}, which isn't known here")
-    return found
+    return functions
 
 
 def reached(names, among=None):
@@ -143,38 +148,38 @@ def reached(names, among=None):
     def functions(symbols):
         return [name for name in symbols if (among is None or name in among) and function(name)]
 
-    return {*closure(functions(names), lambda name: functions(function(name).runs))}
+    return {*all_reached(functions(names), lambda name: functions(function(name).runs))}
 
 
 def symbol(crate, name):
     """Returns the symbol of the function of that name in a crate, which has one."""
-    (found,) = [other for other in records(crate) if other.split("::")[-1] == name]
-    return found
+    (known,) = [other for other in records(crate) if other.split("::")[-1] == name]
+    return known
 
 
 def around_command():
     """Returns the functions of ours that run before and after `command`, by their symbols."""
-    found, left, command = {}, [symbol("digests", "program")], symbol("digests", "command")
+    around, left, command = {}, [symbol("digests", "program")], symbol("digests", "command")
     while left:
         called = ours().get(left.pop())
-        if called and called.name not in found and called.name != command:
-            found[called.name] = called
+        if called and called.name not in around and called.name != command:
+            around[called.name] = called
             left += called.named
-    return found
+    return around
 
 
 def callers_of(names):
     """Returns the other functions of ours that name one of these, or the block in which one stands,
     and those that name them in turn. A function in a block is called through a trait, so the search
     ends there."""
-    found, asked = set(), {*names}
+    above, asked = set(), {*names}
     while asked:
         wanted = asked | {ours()[name].block for name in asked}
         callers = {caller.name for caller in ours().values() if wanted & {*caller.named}}
-        new = callers - found - {*names}
-        found |= new
+        new = callers - above - {*names}
+        above |= new
         asked = {name for name in new if not ours()[name].block}
-    return sorted(found)
+    return sorted(above)
 
 
 def statements():
@@ -185,8 +190,11 @@ def statements():
         module = ""
         with open(f"{library(crate)}/lang/antt/made.json", encoding="utf-8") as file:
             for line in file:
-                if line.startswith('"'):
+                kind = KIND.match(line)
+                if not kind:
                     module = json.loads(line)
+                elif kind[1] not in KINDS:
+                    raise ValueError(f"{module} of {crate} has {kind[1]}, which isn't known here")
                 elif module.startswith("specs/"):
                     yield crate, module, line
 
@@ -206,21 +214,25 @@ def without_parameters(name):
     return re.sub(r"\+[\w+]*(?=::\w+$)", "", name)
 
 
+def symbol_of(crate, parts):
+    """Returns the symbol of that of which the kit has made a module of a crate, with these parts
+    after `contracts` or `declared`."""
+    parts = itertools.takewhile(lambda part: not re.match("The[A-Z]|(Key|Laws)$", part), parts)
+    return without_parameters("::".join([crate, *parts]))
+
+
 @functools.lru_cache(maxsize=None)
 def mentions():
     """Returns what the kit has resolved in each contract, type, trait and `impl` of ours: by its
     symbol the symbols there, the kit's, too."""
-    found = {}
+    by_symbol = {}
     for crate, module, line in statements():
         record = json.loads(line)
         record.get("Contract", {}).pop("types", None)  # those of the whole file, which say nothing
-        parts = itertools.takewhile(
-            lambda part: not re.match("The[A-Z]|(Key|Laws)$", part), module.split("/")[2:]
-        )
         named = {value for key, value in inside(record) if key == "symbol"} - {None}
-        of_module = found.setdefault(without_parameters("::".join([crate, *parts])), set())
+        of_module = by_symbol.setdefault(symbol_of(crate, module.split("/")[2:]), set())
         of_module.update(map(without_parameters, named))
-    return found
+    return by_symbol
 
 
 def mentioned_in(name):

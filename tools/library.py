@@ -1,6 +1,6 @@
 #!/usr/bin/env python3
 """Writes the contracts in the page of each library, crates/NAME/CALLING.md, as the kit has read
-them.
+them, with where their words come from, and what these mean if docs/BELIEVED.md doesn't say it.
 
     tools/library.py            fails if a page isn't as it should be
     tools/library.py --write    writes the pages anew; what stands above the mark is written by hand
@@ -13,26 +13,66 @@ import sys
 sys.dont_write_bytecode = True  # nothing is to be left beside these files
 
 import compiled
+import library_words
+from claims import code
 from items import as_in_a_source
 from rattle import Code
-from sources import stale_pages, text_of, write_pages
+from sources import TOP, stale_pages, text_of, write_pages
 
 MARK = "<!-- From here on tools/library.py writes. -->\n"
 NOTE = (
     "## Contracts\n\n"
-    "`docs/AUDITING.md` says how clauses are read, `docs/LIBRARY.md` what their words mean; "
-    "`specs/` defines the words. A clause without a label stands for itself. An `impl` that states "
-    "nothing of its own has the contracts of its trait. A bound after `where` is that of the "
-    "`impl`. A derived `Error` is that of `thiserror`, which gives `Display`, too. A value may be "
-    "dropped only if its type has `Drop`.\n"
+    "`docs/AUDITING.md` says how clauses are read, `docs/LIBRARY.md` what their words mean. The "
+    "definitions of these are in [What must be believed](../../docs/BELIEVED.md) or, if only "
+    "libraries need them, at the end of their crate's page. A clause without a label stands for "
+    "itself. An `impl` that states nothing of its own has the contracts of its trait. A bound "
+    "after `where` is that of the `impl`. A derived `Error` is that of `thiserror`, which gives "
+    "`Display`, too. A value may be dropped only if its type has `Drop`.\n"
+)
+DEFINITIONS = (
+    "## Definitions\n\n"
+    "Those to which contracts of libraries lead, and none of what must be believed of the program."
+    "\n"
 )
 
 
+def without_links(comment):
+    """Returns a `///` comment as one line, with names in the place of links."""
+    return re.sub(r"\[(`[^`]*`)\](?:\([^)]*\))?", r"\1", " ".join(filter(None, comment)))
+
+
 def first_sentence(comment):
-    """Returns the first sentence of a `///` comment, with names in the place of links."""
-    text = " ".join(filter(None, comment))
-    text = re.sub(r"\[(`[^`]*`)\](?:\([^)]*\))?", r"\1", text)
-    return re.match(r".*?\.(?= [A-Z`]|$)", text)[0]
+    """Returns the first sentence of a `///` comment."""
+    return re.match(r".*?\.(?= [A-Z`]|$)", without_links(comment))[0]
+
+
+def comments_of_parts(item):
+    """Returns the `///` comments of the fields or variants of a type, by their names."""
+    rows = text_of(f"{TOP}/crates/{item.crate}/src/{item.file}").split("\n")
+    found, comment = {}, []
+    for row in [rows[number - 1].strip() for number in item.in_source]:
+        part = re.match(r"(?:pub )?(\w+)", row)
+        if row == "}":
+            break
+        if row.startswith("///"):
+            comment.append(row[4:])
+        elif part:
+            found[part[1]] = without_links(comment)
+            comment = []
+    return found
+
+
+def part_lines(kind, item, parts):
+    """Yields what is said of the fields or variants of a type: their names on a line, or each on
+    one below its comment."""
+    comments = comments_of_parts(item)
+    of_parts = [comments.get(re.match(r"\w+", part)[0]) for part in parts]
+    if parts and not any(of_parts):
+        yield f"  {kind}: {', '.join(parts)}"
+    elif parts:
+        yield f"  {kind}:"
+        for part, comment in zip(parts, of_parts):
+            yield from [f"    // {comment}", f"    {part}"] if comment else [f"    {part}"]
 
 
 def bounds(block, known=""):
@@ -58,9 +98,14 @@ def is_shown(item, clause):
     return bool(clause.member) and not is_proof
 
 
+def clauses_shown(item):
+    """Returns the clauses of an item that are shown."""
+    return [clause for clause in item.clauses if is_shown(item, clause)]
+
+
 def clause_lines(item):
     """Returns a line for each clause of an item that is shown."""
-    return [clause_line(clause) for clause in item.clauses if is_shown(item, clause)]
+    return [clause_line(clause) for clause in clauses_shown(item)]
 
 
 def calls_of(block):
@@ -89,12 +134,16 @@ class Library:
     """The libraries' items, and which traits their types have."""
 
     def __init__(self):
-        self.code = Code()
+        self.code = code()
         self.items = [item for item in self.code.items if "doc ( hidden )" not in item.attributes]
         self.lines = {}
         for crate, file, path in compiled.read_files():
             lines = [as_in_a_source(line) for line in text_of(path).splitlines()]
             self.lines[crate, file[: -len(".rt")]] = lines
+        parts = [part for crate in compiled.LIBRARIES for part in self.parts_shown(crate)]
+        reached = library_words.reached_by(parts, clauses_shown)
+        self.defined = library_words.by_files(reached)
+        self.types_reached = library_words.types_in(reached)
 
     def exports(self, crate):
         """Yields what the root of a crate exports: the file of each module with the names from
@@ -165,13 +214,13 @@ class Library:
         """Yields what is said of a type besides its sentence: its parts, its traits, its view, its
         public calls, and what its blocks for traits state."""
         fields = [part.removeprefix("pub ") for part in item.parts if part.startswith("pub ")]
-        facts = {
-            "fields": fields if item.kind == "struct" else [],
-            "variants": item.parts if item.kind == "enum" else [],
-            "traits": self.traits(item),
-        }
         yield item.head
-        yield from (f"  {name}: {', '.join(parts)}" for name, parts in facts.items() if parts)
+        if item.kind == "struct":
+            yield from part_lines("fields", item, fields)
+        if item.kind == "enum":
+            yield from part_lines("variants", item, item.parts)
+        if traits := self.traits(item):
+            yield f"  traits: {', '.join(traits)}"
         yield from clause_lines(item)
         blocks = self.blocks(item)
         for block in blocks:
@@ -225,14 +274,47 @@ class Library:
         for name, sentence, lines in sorted(others):
             yield f"### `{name}`", sentence, lines
 
+    def parts_shown(self, crate):
+        """Yields each item of whose clauses a crate's page shows some."""
+        for item, _ in self.exported_items(crate):
+            yield item
+            if item.kind == "trait":
+                yield from calls_of(item)
+            for block in self.blocks(item) if item.kind in (*library_words.TYPES, "type") else ():
+                if block.trait is not None and "automatically_derived" not in block.attributes:
+                    yield block
+                calls = calls_of(block)
+                yield from (call for call in calls if block.trait or call.public and call.comment)
+
+    def words(self, crate):
+        """Yields the paragraphs that say where the words of a crate's page come from."""
+        items = [item for item, _ in self.exported_items(crate)]
+        types = {
+            library_words.place_of_type(one) for one in items if one.kind in library_words.TYPES
+        }
+        types |= self.types_reached.get(crate, set())
+        words = library_words.words_of(self.parts_shown(crate), clauses_shown)
+        yield from library_words.where_from(crate, words, types)
+
+    def definitions(self, crate):
+        """Yields the definitions that callers need and that docs/BELIEVED.md doesn't have, with the
+        names of their files."""
+        for file, definitions in self.defined.get(crate, {}).items():
+            yield f"{crate}/specs/{file}.antt", library_words.text_of_definitions(definitions)
+
     def contracts(self, crate):
         """Returns the generated part of a crate's page."""
-        parts = [NOTE, *(line + "\n" for line in self.passed_on(crate))]
+        parts = [NOTE, *(line + "\n" for line in (*self.words(crate), *self.passed_on(crate)))]
         for title, sentence, lines in self.sections(crate):
             parts.append(f"{title}\n")
             if sentence:
                 parts.append(f"{sentence}\n")
             parts.append("\n".join(["```text", *lines, "```\n"]))
+        if definitions := [*self.definitions(crate)]:
+            parts.append(DEFINITIONS)
+        for file, text in definitions:
+            parts.append(f"### `{file}`\n")
+            parts.append(f"```text\n{text}\n```\n")
         return "\n".join(parts)
 
 

@@ -64,14 +64,17 @@ def options_of(program, tool):
     )
     if helped.returncode:
         sys.exit(f"{tool} has no help: status {helped.returncode}")
-    found = []
+    options = []
     for line in helped.stdout.splitlines()[2:]:
-        short, long, value, text = LINE.fullmatch(line).groups()
+        row = LINE.fullmatch(line)
+        if not row:
+            sys.exit(f"{tool} --help has a line that lists no option: {line!r}")
+        short, long, value, text = row.groups()
         word = f"--{long}=8" if value else f"--{long}"  # a value is a number of bits
         where = PLACES[takes(program, tool, word), takes(program, tool, "--check", word)]
         at_once = takes(program, tool, word, "--=")
-        found.append(Option(short, long, value, text, where, at_once))
-    return found
+        options.append(Option(short, long, value, text, where, at_once))
+    return options
 
 
 def cuts(option, options):

@@ -7,7 +7,7 @@ from options import ALWAYS, DIGESTS, NEVER, TOOLS, WITH_CHECK, WITHOUT_CHECK, op
 from roff import WIDTH, bullet, escaped, inline, item, page, section, shown
 from sources import text_of
 
-DATE = "2026-11-30"  # of the last change of the texts
+DATE = "2026-12-01"  # of the last change of the texts
 FEWER = ", or fewer with `--length`"
 
 
@@ -17,7 +17,7 @@ def version():
 
 def typed(text):
     """Marks everything but the {names} as typed."""
-    return re.sub(r"(?:^|(?<=\}))[^{}]+", lambda found: f"`{found[0]}`", text)
+    return re.sub(r"(?:^|(?<=\}))[^{}]+", lambda part: f"`{part[0]}`", text)
 
 
 def part_of(block):

@@ -2,6 +2,10 @@
 lib/digests/current leads, and links through `current` at the places where others look. All else is
 of others, even what we made elsewhere: if it is in the way, it is named, and stays.
 
+Before a run makes the directory lib/digests/NAME, it writes that down, as the link NAME.made, which
+says NAME. So a directory is ours by what we wrote and not by how it is called. A link is there
+whole or not at all.
+
 Whatever ends a run, `current` leads to a whole directory, the old one or the new one. The next run
 completes it."""
 
@@ -9,7 +13,6 @@ import contextlib
 import fcntl
 import os
 import pathlib
-import re
 import shutil
 import subprocess
 import sys
@@ -21,9 +24,7 @@ BASH, FISH, ZSH = (
     "share/zsh/site-functions",
 )
 FOLDERS = ("bin", MAN, BASH, FISH, ZSH)  # those of the links
-NEW = f"{HOME}/new.{os.urandom(8).hex()}"  # what this run hasn't finished
-# Ours in lib/digests, besides `current`.
-NAMES = re.compile(r"[\d.]+-[0-9a-f]{16}(\.2)?|new\.[0-9a-f]{16}")
+NEXT = f"{HOME}/next"  # the link that becomes `current`
 
 
 def say(text, to=1):
@@ -39,9 +40,22 @@ def link_at(path):
     return ""
 
 
+def note_of(name):
+    """Returns the path of the link that says that we made this directory in lib/digests."""
+    return f"{HOME}/{name}.made"
+
+
+def made():
+    """Returns the names of the directories in lib/digests that are ours."""
+    names = os.listdir(HOME) if can_read(HOME) else []
+    said = {link_at(f"{HOME}/{name}") for name in names}
+    own = {name for name in said if name.strip(".") and "/" not in name}  # no way out of here
+    return {name for name in own if link_at(note_of(name)) == name}
+
+
 def current():
     """Returns the name of our directory to which `current` leads, if it leads to one."""
-    return link_at(CURRENT) if NAMES.fullmatch(link_at(CURRENT)) else None
+    return link_at(CURRENT) if link_at(CURRENT) in made() else None
 
 
 def is_ours(path):
@@ -63,33 +77,6 @@ def in_folders():
     }
 
 
-def is_of_an_earlier_form(path):
-    """Returns whether this is still what an earlier form put there: a link to the program in the
-    place of a command; or the program, a page or a completion, all of which mention it."""
-    if path.startswith("bin/") and path != "bin/digests":
-        return link_at(path) == "digests"
-    return (
-        os.path.isfile(path)
-        and not os.path.islink(path)
-        and b"digests" in pathlib.Path(path).read_bytes()
-    )
-
-
-def left_of_an_earlier_form():
-    """Returns what is left of an earlier form, with its list. Each form's list has a line for the
-    program."""
-    name = "share/digests/installed"
-    lines = (
-        pathlib.Path(name).read_text(errors="replace").splitlines() if os.path.isfile(name) else []
-    )
-    if not any(
-        re.fullmatch(r"program [\d ]+|([0-9a-f]{64}  )?bin/digests", line) for line in lines
-    ):
-        return []
-    paths = {"bin/digests", *(re.sub("^link ", "bin/", line.rpartition("  ")[2]) for line in lines)}
-    return [*sorted(filter(is_of_an_earlier_form, paths & in_folders())), name]
-
-
 def is_noexec(base):
     """Returns whether lib/digests is, or would be, on a file system that lets no program run."""
     place = pathlib.Path(base, HOME)
@@ -105,12 +92,12 @@ def look(paths):
     for folder in (HOME, *FOLDERS):
         above.update(map(str, pathlib.Path(folder, "any").parents))
     in_the_way = {path for path in above if os.path.lexists(path) and not can_read(path)}
-    found = in_folders()
-    links = set(filter(is_ours, found))
-    others = in_the_way | found & paths - links
+    present = in_folders()
+    links = set(filter(is_ours, present))
+    others = in_the_way | present & paths - links
     names = os.listdir(HOME) if can_read(HOME) else []
-    if names and not current() and ("current" in names or not any(map(NAMES.fullmatch, names))):
-        others.add(HOME)  # where a run that was ended leaves what is ours, or nothing
+    if names and not current() and ("current" in names or not made()):
+        others.add(HOME)  # where a run that was ended leaves a note, or nothing
     return (set(), others | links) if HOME in others else (links, others)
 
 
@@ -155,39 +142,47 @@ def tree(folder):
         }
 
 
-def write(name, things):
-    """Makes a directory with these things, unless ours has just them; returns its name."""
+def write(name, contents):
+    """Makes a directory with these contents, by their paths, unless ours has just them; returns its
+    name."""
+    while os.path.lexists(f"{HOME}/{name}"):  # commands run from it, or it is of others
+        name += ".2"
+    os.symlink(name, note_of(name))
     try:
-        for path, thing in things.items():
-            place = pathlib.Path(NEW, path)
+        for path, content in contents.items():
+            place = pathlib.Path(HOME, name, path)
             os.makedirs(place.parent, exist_ok=True)
-            place.symlink_to(thing) if isinstance(thing, str) else place.write_bytes(thing)
-        os.chmod(f"{NEW}/bin/digests", 0o755)
+            place.symlink_to(content) if isinstance(content, str) else place.write_bytes(content)
+        os.chmod(f"{HOME}/{name}/bin/digests", 0o755)
     except OSError:
-        shutil.rmtree(NEW, ignore_errors=True)
+        shutil.rmtree(f"{HOME}/{name}", ignore_errors=True)
+        os.remove(note_of(name))
         raise
-    if current() and tree(f"{HOME}/{current()}") == tree(NEW):
-        shutil.rmtree(NEW)
+    if current() and tree(f"{HOME}/{current()}") == tree(f"{HOME}/{name}"):
+        drop(current())
         return current()
-    name += ".2" * os.path.lexists(f"{HOME}/{name}")  # commands run from the old one
-    os.rename(NEW, f"{HOME}/{name}")
     return name
 
 
 def drop(kept=None):
-    """Removes what is ours in lib/digests, but this name."""
-    for entry in list(os.scandir(HOME)):
-        if NAMES.fullmatch(entry.name) and entry.name != kept:
-            try:
-                (shutil.rmtree if entry.is_dir(follow_symlinks=False) else os.remove)(entry.path)
-            except OSError as error:  # which may name only the last part of a path
-                sys.exit(f"install: {os.path.abspath(entry.path)}: {error.strerror}")
+    """Removes what is ours in lib/digests, but the directory of this name."""
+    ours = made()
+    if link_at(NEXT) in ours:
+        os.remove(NEXT)
+    for name in sorted(ours - {kept}):
+        path = f"{HOME}/{name}"
+        try:
+            if os.path.isdir(path) and not os.path.islink(path):
+                shutil.rmtree(path)
+            os.remove(note_of(name))
+        except OSError as error:  # which may name only the last part of a path
+            sys.exit(f"install: {os.path.abspath(path)}: {error.strerror}")
 
 
-def install(name, things):
-    """Puts these things, bytes of files and what links say, where their paths say, and removes what
-    else is ours."""
-    paths = {path for path in things if os.path.dirname(path) in FOLDERS}
+def install(name, contents):
+    """Puts these contents, bytes of files and what links say, where their paths say, and removes
+    what else is ours."""
+    paths = {path for path in contents if os.path.dirname(path) in FOLDERS}
     links, others = look(paths)
     if others:
         sys.exit(
@@ -203,13 +198,13 @@ def install(name, things):
     for folder in (HOME, *FOLDERS):
         os.makedirs(folder, exist_ok=True)
     drop(current())  # what a run has left that was ended
-    name = write(name, things)
+    name = write(name, contents)
     for path in filter(is_ours, sorted(links - paths)):  # while they still lead to something
         os.remove(path)
     if name != current():
         sync()
-        os.symlink(name, NEW)
-        os.rename(NEW, CURRENT)
+        os.symlink(name, NEXT)
+        os.rename(NEXT, CURRENT)
     for path in sorted(paths - links):  # this fails if something has appeared there
         os.symlink(
             os.path.relpath(f"{CURRENT}/{path}", os.path.realpath(os.path.dirname(path))), path

@@ -1,106 +1,49 @@
 #!/usr/bin/env python3
 """Proves what has changed of the program's crates, and compiles the program for each level of
-processors into out/LEVEL/digests. `tools/build` calls this; `tools/prove.py --take` takes up the
-libraries that the gate has left.
+processors into out/LEVEL/digests. `tools/build` calls this, and knows when."""
 
-If a check has kept work in a crate, `rt` proves one crate after another, since it begins with that
-work. If none has, and the kit is the one that README names, the kit proves crates in parallel, as
-its gate does: what a crate loads of those below is their statements, without proofs. `rt` doesn't
-take such libraries for its own checks."""
-
-import copy
-import os
-import re
-import runpy
+import hashlib
 import shutil
 import signal
 import subprocess
 import sys
-import threading
-import time
 from pathlib import Path
 
 sys.dont_write_bytecode = True  # nothing is to be left beside these files
 
-from sources import TOP, crates_of_program, kit
+from lanes import Lanes, OtherKit
+from progress import Progress, text_if
+from sources import TOP, crates_of_program
 
 *LIBRARIES, MAIN = crates_of_program()
 LEVELS = {"default": [], "x86-64-v3": ["--cpu", "x86-64-v3"]}
-CRATES, OUT, LOG = Path(TOP, "crates"), Path(TOP, "out"), Path(TOP, "out", "build.log")
-NOT_FOR_THIS_MACHINE = 127  # the status of a program for later processors than the machine's
+CRATES, OUT = Path(TOP, "crates"), Path(TOP, "out")
 
 
-class Progress:
-    """Prints a line for each step that has ended. On a terminal, a line for each that runs
-    follows."""
-
-    def __init__(self):
-        self.begun, self.lock = {}, threading.Lock()
-        self.back = ""  # what moves a terminal above the lines of the steps that run
-        self.on_terminal = os.isatty(1) and os.environ.get("TERM", "dumb") != "dumb"
-        if self.on_terminal:
-            threading.Thread(target=self.show_running, daemon=True).start()
-
-    def run(self, step, call):
-        """Runs a step, of a crate or a level, and returns whether all is well. `call` gets a file
-        for what the kit says."""
-        with open(OUT / f"{step}.log", "w", encoding="utf-8", errors="replace") as file:
-            self.begun[step] = time.monotonic()
-            failed = call(file) not in (0, NOT_FOR_THIS_MACHINE)
-            with self.lock, open(LOG, "a", encoding="utf-8") as log:
-                text = text_if(OUT / f"{step}.log")
-                if failed:
-                    log.write(f"== {step}: failed\n{text}")
-                    self.show([self.line(step, "failed"), *text.splitlines(True)[-20:]])
-                else:
-                    log.write(f"== {step}\n{text}")
-                    self.show([self.line(step, self.elapsed(step))])
-                del self.begun[step]
-        os.remove(file.name)
-        return not failed
-
-    def elapsed(self, step):
-        """Returns how long a step has taken so far."""
-        return f"{time.monotonic() - self.begun[step]:.0f} s"
-
-    def line(self, step, state):
-        """Returns the line of a step that is in this state."""
-        if step in LIBRARIES:
-            return f"crate {LIBRARIES.index(step) + 1} of {len(LIBRARIES)}, {step}: {state}\n"
-        return f"the program for {step}: {state}\n"
-
-    def line_so_far(self, step):
-        """Returns the line of a step that runs, with how many functions the kit has counted."""
-        text = text_if(OUT / f"{step}.log")
-        counts = re.findall(r"(?m)^(?:so far: |checked .*, )(\d+ of \d+)", text)
-        functions = f"{counts[-1]} functions, " if counts else ""
-        return self.line(step, functions + self.elapsed(step))
-
-    def show(self, lines):
-        """Prints lines in the place of those of the steps that run."""
-        print(self.back + "".join(lines), end="", flush=True)
-        self.back = ""
-
-    def show_running(self):
-        """Prints the lines of the steps that run, twice a second."""
-        while True:
-            time.sleep(0.5)
-            with self.lock:
-                lines = [self.line_so_far(step) for step in list(self.begun)]
-                self.show(lines)
-                self.back = "\033[A\033[K" * len(lines)
+def titles():
+    """Returns what each step is called."""
+    names = {level: f"the program for {level}" for level in LEVELS}
+    for number, crate in enumerate(LIBRARIES, 1):
+        names[crate] = f"crate {number} of {len(LIBRARIES)}, {crate}"
+    return names
 
 
-def text_if(path):
-    """Returns the text of a file, or "" if there is none."""
-    return path.read_text("utf-8", "replace") if path.exists() else ""
+def state_of(program, stamp):
+    """Returns what is noted beside a program: the stamp of its sources, and its sum."""
+    return f"{stamp} {hashlib.sha256(program.read_bytes()).hexdigest()}\n"
 
 
-def keep(level, program):
-    """Copies a program into a level's directory, where it appears whole, even after a power cut."""
+def is_kept(level, stamp):
+    """Returns whether a level's program is there, as it was made of the sources of this stamp."""
+    program = OUT / level / "digests"
+    return program.exists() and text_if(OUT / level / "stamp") == state_of(program, stamp)
+
+
+def keep(level, program, stamp=""):
+    """Copies a program into a level's directory, where it appears whole."""
     new = OUT / level / "digests.new"
     shutil.copy(program, new)
-    subprocess.run(["sync", new], check=True)
+    (OUT / level / "stamp").write_text(state_of(new, stamp), "utf-8")
     new.replace(new.with_name("digests"))
 
 
@@ -124,86 +67,15 @@ def prove_in_turn(progress):
     return True
 
 
-class Lanes:
-    """The crates, as the kit's own code sees them, and its lanes, in which it proves several at
-    once."""
-
-    def __init__(self, progress=None):
-        self.rt, self.progress = runpy.run_path(f"{kit()}/bin/rt"), progress
-        self.rtlib = self.rt["rtlib"]
-        self.rtlib.Crate = self.rt["Crate"]
-        crates = {crate.name: crate for crate in self.rtlib.crates_below(TOP)}
-        self.libraries, self.main = [crates[name] for name in LIBRARIES], crates[MAIN]
-
-    def take(self):
-        """Takes up the libraries as they are."""
-        for crate in self.libraries:
-            Path(crate.rlib).with_name("proved").write_text(crate.stamp(), "utf-8")
-
-    def library(self, crate, step, words):
-        """Proves a library, keeps its statements, and returns 0 or another status. On a terminal it
-        is checked before it is built, which costs a twentieth more: only a check says how far it
-        is."""
-        Path(crate.rlib).with_name("stamp").unlink(missing_ok=True)  # rt's, for what it made itself
-        if not self.progress.on_terminal:
-            return crate.call(self.rtlib.RATTLE, "build", *words, "--statements", "-o", crate.rlib)
-        check = ["check", *words, "--statements", "--progress", "-o", "out/checked"]
-        for flag in ("--logic-built", "--jobs"):  # for the check alone
-            del words[words.index(flag) : words.index(flag) + 2]
-        build = ["build", *words, "--crate-checked", "out/checked", "-o", crate.rlib]
-        return crate.call(self.rtlib.RATTLE, *check) or crate.call(self.rtlib.RATTLE, *build)
-
-    def program(self, crate, step, words):
-        """Compiles the program for the level `step`, and returns 0 or another status."""
-        flags = ["--toolchain", f"{kit()}/toolchain", "--backend", "llvm", "-o", f"out/{step}.o"]
-        failed = crate.call(self.rtlib.RATTLE, "build", *words, *flags)
-        failed = failed or crate.link(f"out/{step}.o", f"out/{step}")
-        if not failed:
-            keep(step, f"{crate.folder}/out/{step}")
-        return failed or 0
-
-    def task(self, step, crate, work, made, kept):
-        """Returns a task for the lanes, which makes a file if it isn't there, if a crate below was
-        proved anew, or if `kept` has the stamp of other sources. Its call returns whether the file
-        was made anew, or None if that failed."""
-        waits, stamp = [(lower.name, "proof") for lower in crate.below()], crate.stamp()
-
-        def call(given, jobs):
-            anew = [given[key] for key in waits]
-            if None in anew:
-                return None
-            is_there = made.exists() and made.stat().st_size
-            if is_there and text_if(kept) == stamp and not any(anew):
-                return False
-
-            def run(file):
-                own = copy.copy(crate)  # both programs are made of one crate
-                own.out = file
-                os.makedirs(f"{crate.folder}/out/rlib", exist_ok=True)
-                flags = ["--jobs", str(jobs), *LEVELS.get(step, [])]
-                return work(own, step, own.words(flags, keeps=False))
-
-            if not self.progress.run(step, run):
-                return None
-            kept.write_text(stamp, "utf-8")
-            return True
-
-        return waits, crate.count(b"\n"), self.rt["need"](crate), call
-
-    def prove(self):
-        """Proves the crates in parallel, and makes the programs. Returns whether all is well."""
-        self.rtlib.guarded()  # what it starts ends when this does; the main thread must call it
-        self.held = self.rtlib.lock([*self.libraries, self.main])  # until this ends
-        tasks = {}
-        for crate in self.libraries:
-            made = Path(crate.rlib)
-            task = self.task(crate.name, crate, self.library, made, made.with_name("proved"))
-            tasks[crate.name, "proof"] = task
-        for level in LEVELS:
-            made = OUT / level / "digests"
-            task = self.task(level, self.main, self.program, made, made.with_name("stamp"))
-            tasks[level, "program"] = task
-        return None not in self.rt["in_lanes"](tasks).values()
+def prove(progress):
+    """Proves the crates in the kit's lanes if the kit is known, and otherwise in turn. Returns
+    whether all is well."""
+    try:
+        lanes = Lanes(LIBRARIES, MAIN, progress.run, progress.on_terminal)
+    except OtherKit as why:
+        print(f"digests: {why}: one crate is proved after another", flush=True)
+        return prove_in_turn(progress)
+    return lanes.prove(LEVELS, is_kept, keep)
 
 
 def link_fastest():
@@ -215,21 +87,12 @@ def link_fastest():
 
 
 def main():
-    """Builds what is stale, or takes up the libraries that the gate has left."""
-    if sys.argv[1:] == ["--take"]:
-        return Lanes().take()
-    version = subprocess.check_output(["rt", "version"], text=True)
-    LOG.write_text(version, "utf-8")
-    is_known = version.strip() in text_if(Path(TOP, "README.md"))
-    if is_known and not any(CRATES.glob("*/out/incremental/*")):
-        built = Lanes(Progress()).prove()
-    else:
-        built = prove_in_turn(Progress())
-    if not built:
-        sys.exit(f"digests: the build failed; all that the kit said is in {LOG}")
+    """Builds what is stale."""
+    log = OUT / "build.log"
+    log.write_text(subprocess.check_output(["rt", "version"], text=True), "utf-8")
+    if not prove(Progress(titles(), OUT)):
+        sys.exit(f"digests: the build failed; all that the kit said is in {log}")
     link_fastest()
-    subprocess.run(["sync", "-f", OUT], check=True)  # before `out/built` says that all is there
-    os.replace(OUT / "begun", OUT / "built")
 
 
 if __name__ == "__main__":

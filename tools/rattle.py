@@ -5,35 +5,32 @@ import itertools
 import re
 
 import compiled
-from items import Item, as_in_a_source, clauses_in, uses_of
-from sources import TOP, closure, code_of, dependencies, text_of, tokens_of
+import resolved
+from items import Item, Source, as_in_a_source, clauses_in, uses_of
+from sources import TOP, all_reached, dependencies, text_of, tokens_of
 
 # What else stands at the margin.
 NO_ITEM = re.compile(r"(?:pub (?:\( \w+ \) )?)?(?:mod|use|ghost use|macro_rules !) ")
-# The beginning of an item in a source, and the attributes that end before it.
-IN_A_SOURCE = re.compile(
-    r"(?m)^(?:    )?(?:pub(?:\([^)]*\))? )?(?:const (?=fn ))?"
-    r"(fn|trait|struct|enum|type|const|static) (\w+)"
-)
-ATTRIBUTES = re.compile(r"(?m)(?:^ *#\[(?:[^\[\]]|\[[^\[\]]*\])*\]\s*)*\Z")
-# The module that the kit makes of a type's definition, of its variants, or of a file's constants.
-DECLARED = re.compile(
-    r"Rattle\.(\w+)\.specs\.(?:declared|contracts)\.([\w.]+?)\.(\w+?)(?:\.The(?:Variants|Inside))?"
-)
+# A module that the kit has made of our code: of a contract, a type or a trait, of its parts, or of
+# a file's constants.
+MADE_OF_CODE = re.compile(r"Rattle-(\w+)-specs\.(?:contracts|declared)\.([\w.+]+)")
 
 
 class File:
-    """A file as the kit has read it: its rows, its clauses, and the tokens that are code; its
-    items; and what it imports: the names of clauses, and those of code, each with its crates.
-    `outline` has what stands at its margin, without the functions, and `modules` the modules below
-    it."""
+    """A file as the kit has read it: its text, its rows and where they begin, its clauses, and its
+    tokens by their lines; its items; and what it imports: the names of clauses, and those of code,
+    each with its crates. `outline` has what stands at its margin, without the functions, and
+    `modules` the modules below it."""
 
     def __init__(self, crate, file, path):
-        self.crate, self.file, self.rows = crate, file, text_of(path).split("\n")
+        self.crate, self.file, self.text = crate, file, text_of(path)
+        self.rows = self.text.split("\n")
+        self.starts = [0, *itertools.accumulate((len(row) + 1 for row in self.rows), initial=0)]
         self.module = compiled.module(crate, file)
-        tokens = tokens_of(path)
+        tokens, self.tokens = tokens_of(path), {}
+        for token in tokens:
+            self.tokens.setdefault(token.line, []).append(token)
         self.clauses = [*clauses_in(tokens, text_of(path))]
-        self.code = {token for token in tokens if token.kind == "Code"}
         if re.search(r"\n\S", "".join(part.text for part in [*tokens, *self.clauses])):
             raise ValueError(f"{path} has a text or a clause that goes on at the margin")
         self.uses = uses_of([row for row in self.rows if row.startswith("ghost use ")])
@@ -41,6 +38,7 @@ class File:
         self.read_rows()
         self.refuse_inner_items()
         self.find_in_source()
+        self.outline = [row if isinstance(row, str) else row.outline for row in self.outline]
 
     def read_rows(self):
         """Reads what begins at the margin: the items, the ends of blocks, and all else."""
@@ -59,7 +57,7 @@ class File:
                 new = Item(self, range(first, end), None)
                 self.items.append(new)
                 if new.kind != "fn":
-                    self.outline.append(new.outline)
+                    self.outline.append(new)
                 if new.kind in ("impl", "trait"):
                     block = new
 
@@ -73,20 +71,25 @@ class File:
             self.bring_in(*use.groups())
 
     def bring_in(self, first, names):
-        """Adds what a `use` line imports: names below the first one. An item of ours is found by
-        its name, so none may have another one."""
-        if first != "std" and re.search(r" as (?!_ )", names):
-            raise ValueError(f"{self.crate} gives a second name in {self.file}: use {first}{names}")
-        crate = self.crate if first in ("crate", "self", "super") else first
+        """Adds what a `use` line imports: names below the first one, which is this crate, a module
+        of the file, the kit's `std`, or a crate on which this one stands. An item of ours is found
+        by its name, and a word of the kit goes by its own, so only one has another."""
+        is_own = first in ("crate", "self", "super", *self.modules)
+        is_known = is_own or first in ("std", *dependencies()[self.crate])
+        if not is_known or re.search(r" as (?!_ |StdHasher )", names):
+            raise ValueError(
+                f"{self.crate} gives a second name in {self.file}, or takes one from a crate that "
+                f"isn't known: use {first}{names}"
+            )
         for name in re.findall(r"\w+", names):
-            self.imports.setdefault(name, set()).add(crate)
+            self.imports.setdefault(name, set()).add(self.crate if is_own else first)
 
     def refuse_inner_items(self):
         """Fails if a function has items in its body, which the kit's names for functions and types
         don't tell apart."""
-        tokens = sorted(self.code, key=lambda token: token.start)
+        code = [one for of_line in self.tokens.values() for one in of_line if one.kind == "Code"]
         opened = set()
-        for token, after in zip(tokens, tokens[1:]):
+        for token, after in zip(code, code[1:]):
             if token.text == "{" and after.text != "}":
                 opened.add(token.line)
         for item in self.all_items():
@@ -101,34 +104,28 @@ class File:
             yield item
             yield from item.members
 
-    def items_of_source(self):
-        """Returns the items that the source names: all but `impl` blocks and what is derived."""
-        found = []
-        for item in self.all_items():
-            attributes = item.above.attributes if item.above else ""
-            if item.kind != "impl" and "automatically_derived" not in attributes:
-                found.append(item)
-        return found
-
     def find_in_source(self):
         """Finds each item in the source, which has the same, in the same order."""
-        path = f"{TOP}/crates/{self.crate}/src/{self.file}"
-        code, rows = code_of(path), text_of(path).split("\n")
-        begins, items = [*IN_A_SOURCE.finditer(code)], self.items_of_source()
-        if [begin.groups() for begin in begins] != [(item.kind, item.name) for item in items]:
-            raise ValueError(f"{path} has other items than those that the kit has read")
-        places = [ATTRIBUTES.search(code[: begin.start()]).start() for begin in begins]
-        starts = [code.count("\n", 0, place) + 1 for place in places]
-        for item, start, end in zip(items, starts, [*starts[1:], len(rows)]):
-            item.in_source = range(start, end)
-            item.comment = comment_above(rows[: start - 1])
+        source = Source(f"{TOP}/crates/{self.crate}/src/{self.file}")
+        items = [item for item in self.all_items() if not item.is_derived]
+        names = [(item.kind, None if item.kind == "impl" else item.name) for item in items]
+        if [(begin[1] or begin[3], begin[2]) for begin in source.begins] != names:
+            raise ValueError(f"{source.path} has other items than those that the kit has read")
+        starts = [source.first_line(begin) for begin in source.begins]
+        for item, begin, start, end in zip(
+            items, source.begins, starts, [*starts[1:], len(source.rows)]
+        ):
+            item.find_in(source, begin, end)
+            item.comment = comment_above(source.rows[: start - 1])
 
 
 def comment_above(rows):
-    """Returns the lines of the `///` comment at the end of some rows, without their marks."""
+    """Returns the lines of the comment at the end of some rows, without their marks: of those that
+    begin with `///`, or of all if none does."""
     stripped = [row.strip() for row in reversed(rows)]
-    comment = itertools.takewhile(lambda row: row.startswith("//"), stripped)
-    return [row[4:] for row in reversed([*comment]) if row.startswith("///")]
+    comment = [*itertools.takewhile(lambda row: row.startswith("//"), stripped)][::-1]
+    shown = [row for row in comment if row.startswith("///")] or comment
+    return [row.lstrip("/").removeprefix(" ") for row in shown]
 
 
 class Code:
@@ -136,7 +133,7 @@ class Code:
     names of types, each with that of the type that it means."""
 
     def __init__(self):
-        self.files = [File(*found) for found in compiled.read_files()]
+        self.files = [File(*of_file) for of_file in compiled.read_files()]
         self.items = [item for file in self.files for item in file.items]
         self.functions = []
         for file in self.files:
@@ -158,6 +155,16 @@ class Code:
         # they stand for.
         self.replaced = {}
         self.find_symbols()
+        self.check()
+
+    def check(self):
+        """Compares each item with the source, where constants stand for their values."""
+        values = {}
+        for constant in itertools.chain(*self.replaced.values()):
+            values.setdefault(constant.name, set()).add(constant.value)
+        for item in self.items:
+            if not item.is_derived:
+                item.check(values)
 
     def find_symbols(self):
         """Finds the symbol of each item."""
@@ -191,38 +198,38 @@ class Code:
         """Returns the function or the `impl` with this symbol, or None if no source of ours spells
         it out; `TRAIT#N` is the Nth function of a trait."""
         symbol, _, number = symbol.partition("#")
-        found = self.symbols.get(compiled.without_parameters(symbol))
-        if not found or not number:
-            return found
-        return [member for member in found.members if member.kind != "type"][int(number)]
+        item = self.symbols.get(compiled.without_parameters(symbol))
+        if not item or not number:
+            return item
+        return [member for member in item.members if member.kind != "type"][int(number)]
 
     @staticmethod
-    def meant(item, found):
+    def meant(item, namesakes):
         """Returns those items, of some of one name, that an item means by it: those of the crates
         that a path in it or a `use` of its file names, or else of its own crate, or else of those
         that this stands on."""
-        if len({other.crate for other in found}) < 2:
-            return found
-        name = found[0].name
+        if len({other.crate for other in namesakes}) < 2:
+            return namesakes
+        name = namesakes[0].name
         in_paths = re.findall(rf"\b(\w+) : : (?:\w+ : : )*{name}\b", item.code())
         imported = {*item.in_file.imports.get(name, ()), *in_paths}
         for crates in (imported, [item.crate], dependencies()[item.crate]):
-            if chosen := [other for other in found if other.crate in crates]:
+            if chosen := [other for other in namesakes if other.crate in crates]:
                 return chosen
-        return found
+        return namesakes
 
     def mentioned_in(self, item):
         """Returns the symbols that an item mentions, its own, too. Those of ours must be known
         here."""
         parts = [item, *item.members]
         contracts = [part.symbol for part in parts if part.kind not in ("type", "const", "static")]
-        found = {item.symbol}.union(*map(compiled.mentioned_in, contracts))
-        for symbol in found - self.symbols.keys():
+        mentioned = {item.symbol}.union(*map(compiled.mentioned_in, contracts))
+        for symbol in mentioned - self.symbols.keys():
             if symbol.split("::")[0] in compiled.LIBRARIES:
                 raise ValueError(
                     f"{symbol}, which {item.path} of {item.crate} names, isn't known here"
                 )
-        return sorted(found)
+        return sorted(mentioned)
 
     def named(self, item):
         """Yields the traits, types and models that an item names, and the other names of types, and
@@ -230,12 +237,12 @@ class Code:
         for symbol in self.mentioned_in(item):
             yield from self.declared_as.get(symbol, ())
         for name in sorted(self.replaced.keys() & {*re.findall(r"\w+", item.code())}):
-            found = self.meant(item, self.replaced[name])
-            if len({other.crate for other in found}) > 1:
+            meant = self.meant(item, self.replaced[name])
+            if len({other.crate for other in meant}) > 1:
                 raise ValueError(
                     f"{name}, which {item.name} of {item.crate} names, is of several crates"
                 )
-            yield from found
+            yield from meant
 
     def named_with_blocks(self, item):
         """Yields what `named` does, and the blocks of traits that an item mentions."""
@@ -248,23 +255,39 @@ class Code:
     def blocks(self, items):
         """Returns the blocks in which the types that these items name, and those that these name in
         turn, have their traits."""
-        found = closure(items, self.named_with_blocks)
-        return [item for item in found if item.kind == "impl" and item.trait != "Model"]
+        named = all_reached(items, self.named_with_blocks)
+        return [item for item in named if item.kind == "impl" and item.trait != "Model"]
 
-    def declared(self, module, name):
-        """Returns the item that a name of a module of definitions stands for, if the kit makes that
-        module of our code, and what the item names."""
-        libraries = "|".join(compiled.LIBRARIES)
-        if not re.match(rf"Rattle\.(?:{libraries})\.specs\.(?:declared|contracts)\b", module):
+    @staticmethod
+    def symbol_at(end):
+        """Returns the symbol of that of which the kit has made what has this end, or None if it is
+        nothing of our code."""
+        module, name = resolved.parts(end)
+        made_of = MADE_OF_CODE.fullmatch(module)
+        if not made_of or made_of[1] not in compiled.LIBRARIES:
+            return None
+        constant = [name] if module.endswith(".TheConstants") else []
+        return "::".join([compiled.symbol_of(made_of[1], made_of[2].split(".")), *constant])
+
+    def declared(self, end):
+        """Returns the items to which an end leads, if the kit has made it of our types, and what
+        these name: a trait, a type or, if it has a view, its model, or a constant."""
+        symbol = self.symbol_at(end)
+        if not symbol or "-specs.contracts." in end:
             return []
-        crate, file, owner = DECLARED.fullmatch(module).groups()
-        wanted = crate, file.replace(".", "/") + ".rt", name if owner == "TheConstants" else owner
-        return self.reached(
-            next(item for item in self.items if (item.crate, item.file, item.name) == wanted)
-        )
+        of_code = self.declared_as.get(symbol) or [self.symbols.get(symbol)]
+        if of_code == [None]:
+            raise ValueError(f"{end} isn't known here")
+        found = all_reached(of_code, lambda item: () if self.has_view(item) else self.named(item))
+        return [item for item in found if item.trait == "Model" or not self.has_view(item)]
+
+    def has_view(self, item):
+        """Returns whether contracts see values of a type by its view. Definitions then know of it
+        only of what type that is."""
+        return any(other.trait == "Model" for other in self.declared_as.get(item.symbol, ()))
 
     def reached(self, function):
         """Returns a function, and what its contract's words mean: the traits that bound its
         parameters with those that these name, and the models of the types of its parameters and of
         their members."""
-        return closure([function], self.named)
+        return all_reached([function], self.named)

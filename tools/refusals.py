@@ -13,19 +13,17 @@ import sys
 
 sys.dont_write_bytecode = True  # nothing is to be left beside these files
 
+from gate import outcomes
 from rattle import Code
 from sources import TOP, dependencies, files, text_of, with_part, write_pages
 
 PAGE = "docs/TESTING.md"
-# A line on a wrong version; `./test` counts them at the end.
-LINE = re.compile(r"(?m)rt: must-fail (\w+)/([\w.-]+)\.edit: (.*?)(?: \(\d+ of \d+\))?$")
 SENTENCE = re.compile(r"[A-Z].*\.\n")
 # A goal of a function's own, at a line of the code, whose end may be cut; or in a proof, of the
 # function that the folders name. A proof that names a goal which is gone shows nothing.
-AT = re.compile(r"refused, as it must be: note: src/([\w/]+\.rt):(\d+):\d+: [^(]*\(`([^`]*)(`?)")
+AT = re.compile(r"note: src/([\w/]+\.rt):(\d+):\d+: [^(]*\(`([^`]*)(`?)")
 IN_PROOF = re.compile(
-    r"refused, as it must be: (?:note: )?(?:\./)?proofs/([\w/]+)\.antt:\d+:\d+: error: `([^`]*)`: "
-    r"(?!`goal\.)"
+    r"(?:note: )?(?:\./)?proofs/([\w/]+)\.antt:\d+:\d+: error: `([^`]*)`: (?!`goal\.)"
 )
 
 
@@ -67,8 +65,8 @@ def goal_of(name, is_whole, labels):
         (r"invariant_of-(\w+)", "the invariant of `{}`"),
         (r"(invariant)", "the {} of its type"),
     ):
-        if found := re.match(pattern, name):
-            return text.format(found[1])
+        if parts := re.match(pattern, name):
+            return text.format(parts[1])
     if not is_whole and "invariant".startswith(name):
         return "the invariant of its type"
     return "its proof"
@@ -95,9 +93,9 @@ def function_at(code, crate, file, line):
     return ""
 
 
-def refused_by(code, crate, name, outcome):
+def refused_by(code, name, said):
     """Returns the function and the goal that refuse a wrong version, by what the kit says."""
-    in_code, in_proof = AT.match(outcome), IN_PROOF.match(outcome)
+    crate, in_code, in_proof = name.split("/")[0], AT.match(said), IN_PROOF.match(said)
     if in_code:
         file, line, goal, end = in_code.groups()
         function, is_whole = function_at(code, crate, file, int(line)), bool(end)
@@ -105,19 +103,20 @@ def refused_by(code, crate, name, outcome):
         path, goal = in_proof.groups()
         function, is_whole = function_of(code, crate, path), True
     else:
-        sys.exit(f"{crate}/{name}.edit isn't refused by a goal that can be read: {outcome}")
-    found = goal_of(goal, is_whole, labels_of(code, crate, function))
-    if not found:
-        sys.exit(f"{crate}/{name}.edit: {function} has no clause as in {outcome}")
-    return function, found
+        sys.exit(f"{name} isn't refused by a goal that can be read: {said}")
+    shown = goal_of(goal, is_whole, labels_of(code, crate, function))
+    if not shown:
+        sys.exit(f"{name}: {function} has no clause as in {said}")
+    return function, shown
 
 
 def table(refusals):
     """Returns the table: for each function its goals, with the wrong versions that each refuses."""
     rows, code, crates = {}, Code(), list(dependencies())
-    for crate, name, outcome in refusals:
-        function, goal = refused_by(code, crate, name, outcome)
-        rows.setdefault((crate, function), {}).setdefault(goal, []).append(name)
+    for name, said in refusals.items():
+        function, goal = refused_by(code, name, said)
+        crate, edit = name.split("/")
+        rows.setdefault((crate, function), {}).setdefault(goal, []).append(edit)
     lines = ["|crate|function|clause: wrong versions|", "|---|---|---|"]
     for crate, function in sorted(rows, key=lambda row: (crates.index(row[0]), row[1])):
         goals = sorted(rows[crate, function].items())
@@ -128,15 +127,20 @@ def table(refusals):
 
 def main():
     """Writes the table of the file that is named, or of what the kit says now."""
-    edits = files("must-fail", ".edit")
-    if silent := [name for _, name, path in edits if not SENTENCE.match(text_of(path))]:
+    edits = {f"{crate}/{name}": path for crate, name, path in files("must-fail", ".edit")}
+    if silent := [name for name, path in edits.items() if not SENTENCE.match(text_of(path))]:
         sys.exit(f"{', '.join(silent)}: begin this with a sentence, which says what it does")
     if sys.argv[1:]:
         output = text_of(os.path.abspath(sys.argv[1]))
     else:
         command = ["rt", "must-fail"]
         output = subprocess.run(command, cwd=TOP, stdout=subprocess.PIPE, encoding="utf-8").stdout
-    write_pages({PAGE: with_part(text_of(PAGE), "refusals", table(LINE.findall(output)))})
+    refusals = dict(outcomes(output.splitlines()))
+    if wrong := [
+        name for name in {**edits, **refusals} if name not in edits or not refusals.get(name)
+    ]:
+        sys.exit(f"no line of a known form says what refuses {', '.join(wrong)}")
+    write_pages({PAGE: with_part(text_of(PAGE), "refusals", table(refusals))})
 
 
 if __name__ == "__main__":

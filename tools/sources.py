@@ -6,9 +6,9 @@ import functools
 import glob
 import os
 import re
-import subprocess
 
-TOP = os.path.dirname(os.path.dirname(os.path.realpath(__file__)))
+import lanes
+from lanes import TOP
 
 
 def text_of(*names):
@@ -44,16 +44,16 @@ def with_part(page, tool, part):
     return before + begin + part + end + after
 
 
-def closure(first, next_of):
+def all_reached(first, next_of):
     """Returns the first elements and all that they lead to, in the order in which they are found;
     `next_of` returns what an element leads to directly."""
-    found, left = {}, collections.deque(first)
+    reached, left = {}, collections.deque(first)
     while left:
         element = left.popleft()
-        if element not in found:
-            found[element] = None
+        if element not in reached:
+            reached[element] = None
             left.extend(next_of(element))
-    return list(found)
+    return list(reached)
 
 
 def dependencies():
@@ -66,8 +66,10 @@ def dependencies():
 def below(crate):
     """Returns the crates of the repository that a crate stands on, the lowest first."""
     crates = dependencies()
-    found = closure([crate], lambda name: [lower for lower in crates[name] if lower in crates])
-    return [name for name in crates if name in found and name != crate]
+    reached = all_reached(
+        [crate], lambda name: [lower for lower in crates[name] if lower in crates]
+    )
+    return [name for name in crates if name in reached and name != crate]
 
 
 def crates_of_program():
@@ -85,13 +87,6 @@ def files(folder, ending):
         yield crate, file[: -len(ending)], path
 
 
-@functools.lru_cache(maxsize=None)
-def kit():
-    """Returns the kit's folder."""
-    found = subprocess.run(["rt", "doc"], stdout=subprocess.PIPE, check=True, text=True)
-    return os.path.dirname(found.stdout)
-
-
 # A token: its kind (`rattle fmt --help` says which there are), its line, where it starts and ends
 # in the text, and itself.
 Token = collections.namedtuple("Token", "kind line start end text")
@@ -100,36 +95,49 @@ Token = collections.namedtuple("Token", "kind line start end text")
 PRINTED = re.compile(rb"(?m)^(\d+) (\d+) (\d+) (?!Literal \"//)(\w+)")
 # What stands between tokens: comments, up to the end of a line.
 GAP = re.compile(r"(?:\s|(?://|--)[^\n]*)*")
+# What no source has: all but ASCII's characters and some signs. Other characters may look like one
+# of these, or like nothing.
+STRANGE = re.compile("[^\n -~¬×ΠΣλ₁ℕℤ←→↔∙∥∷≡≢≤⊎⊞⊤⊥⊻⋙◌⟦⟧]")
+
+
+def printed_tokens(paths):
+    """Returns what the kit prints of the tokens of files, by their paths."""
+    of_files = re.split(rb"(?m)^file \d+\n", lanes.printed_tokens(paths))[1:]
+    if len(of_files) != len(paths):
+        raise ValueError("what the kit prints of the tokens of files can't be read")
+    return dict(zip(paths, of_files))
 
 
 @functools.lru_cache(maxsize=None)
-def printed_tokens():
+def tokens_of_all():
     """Returns what the kit prints of the tokens of each file in `src` and `specs`, and of the code
-    that it has read, by the files' paths."""
+    that it has read, by the files' paths: printed at once, since each call takes long."""
     paths = [path for _, _, path in (*files("src", ".rt"), *files("specs", ".antt"))]
     paths += glob.glob(os.path.join(TOP, "crates/*/out/rlib/*/lang/src/**/*.rt"), recursive=True)
-    command = [f"{kit()}/bin/rattle", "fmt", "--tokens", *paths]
-    printed = subprocess.run(command, stdout=subprocess.PIPE, check=True).stdout
-    return dict(zip(paths, re.split(rb"(?m)^file \d+\n", printed)[1:]))
+    return printed_tokens(paths)
 
 
 @functools.lru_cache(maxsize=None)
 def tokens_of(path):
     """Returns the tokens of a file, as the prover reads it, without comments."""
     text = text_of(path)
+    if strange := STRANGE.search(text):
+        line = text.count("\n", 0, strange.start()) + 1
+        raise ValueError(f"in {path} line {line} has the character U+{ord(strange[0]):04X}")
+    printed = tokens_of_all().get(path) or printed_tokens([path])[path]
     data = text.encode()
     tokens = []
     byte, place = 0, 0  # how far the text has been read, in bytes and in characters
-    for line, start, end, kind in PRINTED.findall(printed_tokens()[path]):
+    for line, start, end, kind in PRINTED.findall(printed):
         gap, token = data[byte : int(start)].decode(), data[int(start) : int(end)].decode()
-        if not GAP.fullmatch(gap) or "«" in token:
+        if not GAP.fullmatch(gap) or kind == b"Code" and not token.isascii():
             raise ValueError(f"in {path} this can't be read: {gap}{token}")
         place += len(gap)
         tokens.append(Token(kind.decode(), int(line), place, place + len(token), token))
         place += len(token)
         byte = int(end)
-    if not GAP.fullmatch(text[place:]) or not text.replace("\n", "").isprintable():
-        raise ValueError(f"in {path} a comment has no end, or a character can't be seen")
+    if not GAP.fullmatch(text[place:]):
+        raise ValueError(f"in {path} a comment has no end")
     return tokens
 
 

@@ -34,8 +34,8 @@ CASES = 1500
 
 NOT_FOR_THIS_MACHINE = 127  # the status of a program for later processors than the machine's
 
-# Against what never ends, and far above what anything takes: a machine that halts for a while fails
-# no test.
+# These limits end a run or a test that would never end. They are far above what any takes, so that
+# no test fails on a machine that halts for a while.
 RUN_SECONDS = 600
 TEST_SECONDS = 1200
 SOON = 60  # for what is there at once

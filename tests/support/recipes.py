@@ -3,6 +3,7 @@
 import os
 import re
 import shutil
+from typing import NamedTuple
 
 import harness
 import reference
@@ -11,27 +12,38 @@ from manual import PAGES, sections_of
 
 # What a recipe is for, and how it is known. Each recipe is of one sort.
 SORTS = {
-    "write": r"^\w+( -l 256)? image\.iso > image\.sum$",
+    "write": r"^\(set -C; \w+( -l 256)? image\.iso > image\.sum\)$",
     "write two": r" b2sum --tag image\.iso\)",
-    "write at once": r"^tee ",
-    "write by pv": r"^pv .* > ",
+    "write at once": r"\btee ",
+    "write by pv": r"^pv .*image\.iso/' > ",
     "list": r" -exec ",
     "list on all": r" xargs ",
-    "check": r"^\w+ -c --strict image\.sum$",
+    "check": r"^\w+ -c --strict image\.\w+$",
     "check download": r" --ignore-missing ",
-    "check by pv": r"pv .* -c --strict image\.sum",
+    "check by pv": r"\bcmp - image\.sum",
     "check list": r"^digests \w+ -c --quiet --strict SUMS$",
     "check list on all": r"\bsplit ",
     "check list of others": r"\\xef",
-    "check gpg": r"^gpg ",
+    "check gpg": r"\bgpgv ",
     "check names": r"printf '%b",
     "check one": r"^grep ",
     "unlisted": r" uniq -u ",
     "not UTF-8": r" sed -nz ",
 }
 
-# What the recipes call besides a tool, `gpg` and `pv`: without one of these no recipe is typed.
+# The list that a recipe of such a sort makes.
+MADE = {
+    "list": "SUMS",
+    "list on all": "SUMS",
+    "write": "image.sum",
+    "write by pv": "image.sum",
+    "write two": "image.tagged",
+    "write at once": "image.tagged",
+}
+
+# What the recipes call besides a tool, `gpgv` and `pv`: without one of these no recipe is typed.
 COMMANDS = (
+    "cmp",
     "find",
     "grep",
     "mktemp",
@@ -87,7 +99,7 @@ def recipes_of(page):
 
 def commands_of(recipe):
     """Returns the commands that a recipe calls."""
-    names = (*COMMANDS, "digests", "anysum", "gpg", "pv")
+    names = (*COMMANDS, "digests", "anysum", "gpgv", "pv")
     return [name for name in names if re.search(rf"\b{name}\b", recipe)]
 
 
@@ -141,13 +153,10 @@ class Typed(Case):
         if name in PAGES:
             os.symlink(harness.PROGRAM, self.path(f"commands/{name}"))
 
-    def replace_gpg_and_pv(self):
+    def replace_gpgv_and_pv(self):
         """Replaces what may not be installed. Other tests have the real ones."""
         self.command("pv", 'exec cat "$@"')
-        self.command(
-            "gpg",
-            "[ \"$1 $3\" = '--output --verify' ] && grep -ax '[0-9a-f]*  ./image.iso' >\"$2\"",
-        )
+        self.command("gpgv", "exec grep -ax '[0-9a-f]*  ./image.iso'")
 
     def put(self, name, content="more"):
         """Makes a file in the tree."""
@@ -167,13 +176,13 @@ class Typed(Case):
     def files_of_the_tree(self):
         """Returns the names of all files of the tree except its list, as find gives them, and their
         contents."""
-        top, found = self.path("here"), {}
+        top, contents = self.path("here"), {}
         for folder, _, names in os.walk(top):
             for path in (os.path.join(folder, name) for name in names):
                 if os.path.isfile(path) and not os.path.islink(path):
-                    found[b"." + path[len(top) :]] = self.read(path)
-        found.pop(b"./SUMS", None)
-        return found
+                    contents[b"." + path[len(top) :]] = self.read(path)
+        contents.pop(b"./SUMS", None)
+        return contents
 
     def lines_of_the_tree(self):
         """Returns the lines of a whole list; the image's is the last."""
@@ -220,12 +229,80 @@ class Typed(Case):
     def expect_only(self, *made):
         """Expects the good files as they were, these beside them, and nothing else there or in the
         test's folder."""
-        found = self.files_of_the_tree()
+        contents = self.files_of_the_tree()
         wanted = {
             b"./" + name.encode(): IMAGE if name == "image.iso" else name.encode() for name in GOOD
         }
-        self.assertEqual({name: found.pop(name) for name in wanted}, wanted)
-        self.assertLessEqual(set(found), {f"./{name}".encode() for name in made})
+        self.assertEqual({name: contents.pop(name) for name in wanted}, wanted)
+        self.assertLessEqual(set(contents), {f"./{name}".encode() for name in made})
         tops = {name.split("/")[0].encode() for name in (*GOOD, "SUMS", "SUMS.asc", *made)}
         self.assertLessEqual(set(os.listdir(self.path("here"))), tops)
         self.assertEqual(set(os.listdir(self.folder)), {"commands", "here", "a", "e"})
+
+
+# The list that a recipe reads: SUMS, or its last word.
+LIST = re.compile(r"(?s)\bSUMS\b|[^\s)]+(?=\)?\Z)")
+
+
+class Row(NamedTuple):
+    """A case: what a command of the shell changes in a tree in which all is well; the recipes that
+    are tried, and those of them that pass; those that fail if the image is changed besides; and
+    what is written, if that is compared. The command knows `list`, the list that a recipe makes or
+    reads, and `line`, which writes a line of zeros and its word."""
+
+    change: str
+    tried: set
+    passing: set = frozenset()
+    damaged: set = frozenset()
+    out: bytes = None
+
+
+class Rows(Typed):
+    """Tests of which each tries the rows of a table, each with each of its recipes in each shell
+    that this is for, in a new tree."""
+
+    LINE = f"line() {{ printf '%s\\n' '{'0' * 64}'\"$1\"; }}"
+
+    def setUp(self):
+        super().setUp()
+        self.replace_gpgv_and_pv()
+
+    def lists(self, recipe, sort):
+        """Returns the lists that are in a tree in which all is well, by their names."""
+        raise NotImplementedError
+
+    def make_row(self, row, recipe, sort):
+        """Makes the tree of a row for a recipe. What this makes is there from before."""
+        self.make()
+        for name, content in self.lists(recipe, sort).items():
+            self.put(name, content)
+        name = MADE.get(sort) or LIST.search(recipe)[0]
+        if sort in MADE:
+            self.put(name, "of before")
+        change = f"chmod 777 .; list={name}; {self.LINE}; {row.change}"
+        changed = self.run_command(["sh", "-c", change], cwd=self.path("here"))
+        self.assertEqual((changed.status, changed.err), (0, b""))
+
+    def try_row(self, row, recipe, sort, shell):
+        """Types a recipe: it passes if the row says so. If not, the list of before stays."""
+        how = {} if "/mem" in row.change else self.nobody()
+        made = f"here/{MADE[sort]}" if sort in MADE and MADE[sort] not in row.change else None
+        before = self.read(made) if made and self.is_there(MADE[sort]) else None
+        call = self.type if sort in row.passing else self.fails
+        ran = call(recipe, shell, **how)
+        self.assertEqual(ran.status == 0, sort in row.passing, ran.err)
+        self.assertIn(row.out, (None, ran.out))
+        self.assertTrue(ran.status < 2 or not row.out)  # a report comes with the status 1
+        if before is not None:
+            self.assertEqual(self.read(made), before)
+
+    def try_rows(self, rows, page="digests"):
+        for case, row in rows.items():
+            for recipe, sort, shell in self.each_recipe(*row.tried, page=page):
+                with self.subTest(case=case, page=page, sort=sort, shell=shell):
+                    self.make_row(row, recipe, sort)
+                    self.try_row(row, recipe, sort, shell)
+                    if sort in row.damaged:
+                        self.put("image.iso", IMAGE[:-1])
+                        self.fails(recipe, shell)
+        self.run_command(["chmod", "-R", "777", self.path("here")])

@@ -47,7 +47,7 @@ def unescape(raw):
     if re.fullmatch(rb"(?:[^\\\n\r]|\\[\\nr])*", raw, re.DOTALL) is None:
         return None
     return re.sub(
-        rb"\\([\\nr])", lambda found: {b"\\": b"\\", b"n": b"\n", b"r": b"\r"}[found[1]], raw
+        rb"\\([\\nr])", lambda sign: {b"\\": b"\\", b"n": b"\n", b"r": b"\r"}[sign[1]], raw
     )
 
 
@@ -56,12 +56,12 @@ def mark(name):
     return b"" if escape(name) == name else b"\\"
 
 
-def line(mode, zero, tag, name, found):
+def line(mode, zero, tag, name, checksum):
     """Returns the line of a name and its digest."""
     shown, front, end = (name, b"", b"\0") if zero else (escape(name), mark(name), b"\n")
-    digits = found.hex().encode()
+    digits = checksum.hex().encode()
     if mode == "tag":
-        bits = b"" if len(found) == SIZES[tag] else b"-%d" % (8 * len(found))
+        bits = b"" if len(checksum) == SIZES[tag] else b"-%d" % (8 * len(checksum))
         return front + tag.encode() + bits + b" (" + shown + b") = " + digits + end
     return front + digits + (b" *" if mode == "binary" else b"  ") + shown + end
 
@@ -79,13 +79,13 @@ def is_ignored(text):
 def plain(tag, text):
     """Returns the parts of a plain line: whether a backslash is in front, the digest, and the tail
     after the blank; or None."""
-    found = re.fullmatch(rb"[ \t]*(\\?)([0-9A-Fa-f]+)[ \t](.+)", text, re.DOTALL)
-    if tag is None or found is None:
+    parts = re.fullmatch(rb"[ \t]*(\\?)([0-9A-Fa-f]+)[ \t](.+)", text, re.DOTALL)
+    if tag is None or parts is None:
         return None
-    count = len(found[2])
+    count = len(parts[2])
     if count % 2 or not (1 <= count // 2 <= 64 if tag == "BLAKE2b" else count // 2 == SIZES[tag]):
         return None
-    return bool(found[1]), bytes.fromhex(found[2].decode()), found[3]
+    return bool(parts[1]), bytes.fromhex(parts[2].decode()), parts[3]
 
 
 def tagged(tag, text):
@@ -94,11 +94,11 @@ def tagged(tag, text):
     for own, size in SIZES.items() if tag is None else [(tag, SIZES[tag])]:
         bits = rb"(?:-([1-9][0-9]{0,2}))?" if own == "BLAKE2b" else rb"()"
         shape = rb"[ \t]*(\\?)" + own.encode() + bits + rb" ?\((.+)\)[ \t]*=[ \t]*([0-9A-Fa-f]+)"
-        found = re.fullmatch(shape, text, re.DOTALL)
-        if found is None or found[2] and (int(found[2]) % 8 or int(found[2]) > 512):
+        parts = re.fullmatch(shape, text, re.DOTALL)
+        if parts is None or parts[2] and (int(parts[2]) % 8 or int(parts[2]) > 512):
             continue
-        if len(found[4]) == 2 * (int(found[2]) // 8 if found[2] else size):
-            return bool(found[1]), own, bytes.fromhex(found[4].decode()), found[3]
+        if len(parts[4]) == 2 * (int(parts[2]) // 8 if parts[2] else size):
+            return bool(parts[1]), own, bytes.fromhex(parts[4].decode()), parts[3]
     return None
 
 
@@ -116,17 +116,17 @@ def is_reversed(tag, texts):
 def entry(tag, in_reversed, text):
     """Returns the tag, the digest and the name of a line, or None if it is improperly formatted."""
     if tagged(tag, text):
-        escaped, own, found, raw = tagged(tag, text)
+        escaped, own, checksum, raw = tagged(tag, text)
     elif plain(tag, text):
         own = tag
-        escaped, found, tail = plain(tag, text)
+        escaped, checksum, tail = plain(tag, text)
         if not in_reversed and not is_standard(tail):
             return None
         raw = tail if in_reversed else tail[1:]
     else:
         return None
     name = unescape(raw) if escaped else raw
-    return None if name is None or b"\0" in name else (own, found, name)
+    return None if name is None or b"\0" in name else (own, checksum, name)
 
 
 # Why a name could not be read, and whether it could not even be opened.
@@ -167,8 +167,8 @@ def generated(tool, options, names, world):
         if isinstance(answer, Fault):
             err.append(b"%s: %s: %s\n" % (tool.encode(), escape(name), answer.text))
         else:
-            found = digest(tag, options.size or size, answer)
-            out.append(line(options.mode, options.zero, tag, name, found))
+            checksum = digest(tag, options.size or size, answer)
+            out.append(line(options.mode, options.zero, tag, name, checksum))
     return Ran(1 if err else 0, b"".join(out), b"".join(err))
 
 
@@ -192,13 +192,13 @@ class Manifest:
                 self.verdicts.append(self.verdict(number, entry(self.tag, in_reversed, text)))
         self.summarise()
 
-    def verdict(self, number, found):
+    def verdict(self, number, parts):
         """Returns the verdict of a line, and reports it."""
-        if found is None or self.name == found[2] == b"-":
+        if parts is None or self.name == parts[2] == b"-":
             if self.options.report == "warn":
                 self.err.append(self.front + as_bytes([improper(number, self.tag or "tagged")]))
             return "bad"
-        tag, wanted, name = found
+        tag, wanted, name = parts
         answer = self.world.answer(name)
         if isinstance(answer, Fault):
             if self.options.ignore_missing and answer.in_opening and answer.text == NOT_FOUND:

@@ -99,8 +99,8 @@ class Words:
 
     def last_of(self, *names):
         """Returns the last of these options that stands among the words, if there is one."""
-        found = [option for option in self.options if option in names]
-        return found[-1] if found else None
+        given = [option for option in self.options if option in names]
+        return given[-1] if given else None
 
 
 # What the options come to. A size of 0 is the algorithm's own.

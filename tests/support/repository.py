@@ -52,6 +52,12 @@ class Repository(Case):
         self.write(self.in_top(name), text)
         return self.in_top(name)
 
+    def change(self, name, old, new):
+        """Replaces a text in a file of the repository, which has it once."""
+        text = self.read(self.in_top(name)).decode()
+        self.assertEqual(text.count(old), 1, f"{name} must have this once: {old}")
+        self.put(name, text.replace(old, new))
+
     def script(self, name, *words, stdin=b"", **how):
         """Runs a script of the repository. Names in capitals are for its environment, where `RT_..`
         are for the script in the place of rt; `calls` says how that was called: the crates and the

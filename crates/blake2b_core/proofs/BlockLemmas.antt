@@ -1,10 +1,13 @@
 -- Lemmas on the blocks of a message, on the hash after some of them, and on the digest.
-use Rattle.std.proofs.Common.{◌≡◌, ℕ, zero, suc, ◌+◌, ◌-◌, ◌*◌, ◌≤◌, true, false, List, ◌++◌, length, take, drop, add-one, replicate, refl, arith, flat_map}
-use Rattle.std.proofs.lemmas.List.{take-append-le, drop-append-le, length-drop, map-id, drop-drop, drop-take, take-take, FromFn.map-range_with_len_more, Sums.fold-append}
+use Rattle.std.proofs.Common.{◌≡◌, ℕ, zero, suc, ◌+◌, ◌-◌, ◌*◌, ◌≤◌, true, false, List, ◌++◌, length, take, drop}
+use Rattle.std.proofs.Common.{add-one, replicate, refl, arith, flat_map}
+use Rattle.std.proofs.lemmas.List.{take-append-le, drop-append-le, length-drop, map-id, drop-drop, drop-take, take-take}
+use Rattle.std.proofs.lemmas.List.{FromFn.map-range_with_len_more, Sums.fold-append}
 use Rattle.std.specs.Simd.{first_chunks}
 use Rattle.byteorder.specs.Endian.{little_bytes}
 use Rattle.blake2b_core.proofs.CompressionLemmas.{length-first_chunks, get_or-first_chunks}
-use Rattle.blake2b_core.specs.{Bytes.ByteString, Compression.compress, Digest.count_before_last, Digest.hash_after, Digest.blake2b, Digest.HasBlocksFrom}
+use Rattle.blake2b_core.specs.{Bytes.ByteString, Compression.compress, Digest.count_before_last, Digest.hash_after}
+use Rattle.blake2b_core.specs.{Digest.blake2b, private.OneShot.HasBlocksFrom}
 
 -- the chunks of a message from one of its blocks on are its blocks
 pub are_blocks : {bs : List ByteString} (m : ByteString) (k count : ℕ)

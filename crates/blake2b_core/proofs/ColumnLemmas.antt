@@ -1,7 +1,10 @@
 -- Lemmas on rows of four words, whose columns are mixed at once.
-use Rattle.std.proofs.Common.{◌≡◌, ℕ, ◌-◌, ◌*◌, ◌/◌, ◌%◌, ◌^◌, ◌<◌, List, [], ◌∷◌, length, map, bit_or, bit_xor, ap, refl, arith}
+use Rattle.std.proofs.Common.{◌≡◌, ℕ, ◌-◌, ◌*◌, ◌/◌, ◌%◌, ◌^◌, ◌<◌, List, [], ◌∷◌, length, map, bit_or, bit_xor, ap}
+use Rattle.std.proofs.Common.{refl, arith}
 use Rattle.std.specs.{Int.rotate_right, Simd.Lanes.zip2}
-use Rattle.blake2b_core.specs.{Compression.◌!◌, Compression.◌⊻◌, Compression.◌⋙◌, Compression.mix, private.Columns.columns, private.Columns.diagonals, private.Columns.rotated_row, private.Columns.row, private.Columns.words}
+use Rattle.blake2b_core.specs.{Compression.◌!◌, Compression.◌⊻◌, Compression.◌⋙◌, Compression.mix}
+use Rattle.blake2b_core.specs.{private.Columns.columns, private.Columns.diagonals, private.Columns.rotated_row}
+use Rattle.blake2b_core.specs.{private.Columns.row, private.Columns.words}
 
 -- what holds of each of the four lanes
 below_four : (P : ℕ → Type 0) → P 0 → P 1 → P 2 → P 3 → (j : ℕ) → j < 4 → P j

@@ -1,10 +1,14 @@
 -- Lemmas on the compression function's definitions.
-use Rattle.std.proofs.Common.{◌≡◌, ℕ, zero, suc, ◌*◌, ◌/◌, ◌%◌, ◌^◌, ◌<◌, ◌≤◌, Bool, true, false, List, [], ◌∷◌, ◌++◌, length, take, drop, map, get_or, slice_index_or, if◌then◌else◌, refl, sym, ap, ◌∙◌, arith}
-use Rattle.std.proofs.lemmas.{List.length-drop, List.drop-drop, List.length-map, List.get_or-map, List.ext_get_or, Simd.pick_l_left}
-use Rattle.std.specs.{Int.w64, Int.bit_not, List.range_with_len, Simd.first_chunks, Simd.Lanes.all_below, Simd.Lanes.pick_l}
+use Rattle.std.proofs.Common.{◌≡◌, ℕ, zero, suc, ◌*◌, ◌/◌, ◌%◌, ◌^◌, ◌<◌, ◌≤◌, Bool, true, false, List, [], ◌∷◌, ◌++◌}
+use Rattle.std.proofs.Common.{length, take, drop, map, get_or, slice_index_or, if◌then◌else◌, refl, sym, ap, ◌∙◌, arith}
+use Rattle.std.proofs.lemmas.{List.length-drop, List.drop-drop, List.length-map, List.get_or-map, List.ext_get_or}
+use Rattle.std.proofs.lemmas.{Simd.pick_l_left}
+use Rattle.std.specs.{Int.w64, Int.bit_not, List.range_with_len, Simd.first_chunks, Simd.Lanes.all_below}
+use Rattle.std.specs.{Simd.Lanes.pick_l}
 use lib.Dec.{T}
 use Rattle.byteorder.specs.Endian.{little_number}
-use Rattle.blake2b_core.specs.{Compression.◌!◌, Compression.◌⊻◌, Compression.sigma, Compression.iv, Compression.work_vector, private.Columns.block_words, private.Columns.schedule}
+use Rattle.blake2b_core.specs.{Compression.◌!◌, Compression.◌⊻◌, Compression.sigma, Compression.iv}
+use Rattle.blake2b_core.specs.{Compression.work_vector, private.Columns.block_words, private.Columns.schedule}
 
 -- row k of SIGMA
 abbrev pub sigma_row : ℕ → List ℕ

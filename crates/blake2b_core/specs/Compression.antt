@@ -1,5 +1,6 @@
 -- The compression function F of BLAKE2b (RFC 7693, 2.6, 2.7, 3.1, 3.2), on words below 2 ^ 64 and blocks of 128 bytes.
-use Rattle.std.specs.Prelude.{ℕ, ◌+◌, ◌/◌, ◌%◌, ◌^◌, Bool, List, [], ◌∷◌, ◌++◌, map, fold, bit_xor, slice_index, slice_index_or, slice_set, if◌then◌else◌}
+use Rattle.std.specs.Prelude.{ℕ, ◌+◌, ◌/◌, ◌%◌, ◌^◌, Bool, List, [], ◌∷◌, ◌++◌, map, fold, bit_xor, slice_index}
+use Rattle.std.specs.Prelude.{slice_index_or, slice_set, if◌then◌else◌}
 use Rattle.std.specs.{Int.w64, Int.bit_not, Int.rotate_right, List.range_with_len, Simd.first_chunks}
 use Rattle.byteorder.specs.Endian.{little_number}
 use Rattle.blake2b_core.specs.Bytes.{ByteString}

@@ -1,6 +1,7 @@
 -- The BLAKE2b digest of a message, without a key (RFC 7693, 3.3).
 use Rattle.std.specs.List.{range_with_len}
-use Rattle.std.specs.Prelude.{◌≡◌, ℕ, ◌+◌, ◌-◌, ◌*◌, ◌/◌, ◌≤◌, true, false, List, [], ◌++◌, length, take, drop, fold, replicate, slice_index_or, slice_set, flat_map, EachIndex}
+use Rattle.std.specs.Prelude.{ℕ, ◌+◌, ◌-◌, ◌*◌, ◌/◌, ◌≤◌, true, false, List, [], ◌++◌, length, take, drop, fold}
+use Rattle.std.specs.Prelude.{replicate, slice_set, flat_map}
 use Rattle.byteorder.specs.Endian.{little_bytes}
 use Rattle.blake2b_core.specs.{Bytes.ByteString, Compression.◌!◌, Compression.◌⊻◌, Compression.iv, Compression.compress}
 
@@ -22,8 +23,3 @@ unfoldable pub blake2b : ℕ → ByteString → ByteString
 blake2b n message = let k = count_before_last message in let rest = drop (128 * k) message in
     let last = rest ++ replicate (128 - length rest) 0 in
     take n (flat_map (little_bytes 8) (compress (hash_after n message k) last (length message) true))
-
--- the blocks are consecutive blocks of the message, from block k on
-abbrev pub HasBlocksFrom : ByteString → ℕ → List ByteString → Type 0
-HasBlocksFrom message k blocks = EachIndex blocks
-    (λ i. slice_index_or blocks i [] ≡ take 128 (drop (128 * (k + i)) message))

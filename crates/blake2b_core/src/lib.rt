@@ -1,8 +1,7 @@
 //! BLAKE2b without a key (RFC 7693): the compression function, the digest of a whole message, and the digest of a
 //! message in pieces.
 //!
-//! Only what RFC 7693 defines belongs here. The crate calls only `std`, `byteorder` and `thiserror`, and it takes no
-//! memory.
+//! Only what RFC 7693 defines belongs here. The crate takes no memory.
 //!
 //! ```rust
 //! let mut hasher = Blake2b::new(64).ok_or("no such length")?;

@@ -1,6 +1,7 @@
 //! The digest of a whole message (RFC 7693, 3.3).
 ghost use Rattle.blake2b_core.specs.{Bytes.ByteString, Digest.IsDigestLen, Digest.count_before_last, Digest.blake2b};
-ghost use Rattle.blake2b_core.specs.{Digest.hash_after, Digest.HasBlocksFrom, declared.one_shot.TheConstants.BLOCK};
+ghost use Rattle.blake2b_core.specs.{Digest.hash_after, declared.one_shot.TheConstants.BLOCK};
+ghost use Rattle.blake2b_core.specs.{private.OneShot.HasBlocksFrom};
 ghost use Rattle.std.specs.Prelude.{◌≡◌, ◌↔◌, ℕ, ◌+◌, ◌-◌, ◌*◌, ◌^◌, ◌<◌, ◌≤◌, ◌++◌, length, replicate, IsSome, IfSome};
 ghost use Rattle.std.specs.Simd.{first_chunks};
 

@@ -1,9 +1,14 @@
 -- The bits that a BLAKE2b tag may name: the digits that the code accepts are those of `decimal`.
-use Rattle.std.proofs.Common.{ℕ, ◌≡◌, ◌≢◌, ◌*◌, ◌/◌, ◌%◌, ◌<◌, ◌≤◌, true, List, length, get_or, Some, ap, sym, ◌∙◌, arith, decimal, refl, IsTrue}
+use Rattle.std.proofs.Common.{ℕ, ◌≡◌, ◌≢◌, ◌*◌, ◌/◌, ◌%◌, ◌<◌, ◌≤◌, true, List, length, get_or, Some, ap, sym, ◌∙◌}
+use Rattle.std.proofs.Common.{arith, decimal, refl, IsTrue}
 use Rattle.std.proofs.lemmas.List.Elements.{All-cons, All-head, All-tail, All-nil}
-use Rattle.std.proofs.lemmas.{Str.Parse.IsNumeralModel, Str.Parse.digits_value_short, Str.Parse.numerals_by_value, Fmt.decimal_digit, Fmt.decimal-digits_value, Fmt.digits_decimal, Fmt.digits_value-decimal, Fmt.first_decimal, Fmt.length-decimal-le}
+use Rattle.std.proofs.lemmas.{Str.Parse.IsNumeralModel, Str.Parse.digits_value_short, Str.Parse.numerals_by_value}
+use Rattle.std.proofs.lemmas.{Fmt.decimal_digit, Fmt.decimal-digits_value, Fmt.digits_decimal, Fmt.digits_value-decimal}
+use Rattle.std.proofs.lemmas.{Fmt.first_decimal, Fmt.length-decimal-le}
 use Rattle.std.specs.{Result.result_ok, Str.Parse.digits_value, Char.is_ascii_digit, List.AllPass}
-use Rattle.digest_kinds.{proofs.PrefixLemmas.bind_some, specs.Algo.Blake2b, specs.Algo.has_len, specs.Kind.KindValue, specs.Kind.blake2b_kind, specs.Kind.blake2b_of_bits, specs.KindText.kind_of_digits, specs.KindText.short_number}
+use Rattle.digest_kinds.{proofs.PrefixLemmas.bind_some, specs.Algo.Blake2b, specs.Algo.has_len, specs.Kind.KindValue}
+use Rattle.digest_kinds.{specs.Kind.blake2b_kind, specs.Kind.blake2b_of_bits, specs.KindText.kind_of_digits}
+use Rattle.digest_kinds.{specs.KindText.short_number}
 
 -- ---- digits and the number that they write
 

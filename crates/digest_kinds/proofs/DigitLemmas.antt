@@ -1,7 +1,11 @@
 -- Digits that spell a digest, and decoding them.
-use Rattle.std.proofs.Common.{◌≡◌, ℕ, ◌/◌, ◌≤◌, ◌↔◌, List, length, Result, Ok, Err, IsOk, MatchResult, arith, refl, ltb, IsUtf8, rules}
-use Rattle.std.proofs.lemmas.{Bool.ltb-true, List.Sums.AllPass-from_list_all, Str.IsUtf8-from_ascii, Str.Ascii.IsAscii-from_all}
-use Rattle.hex.{proofs.HexLemmas.IsAscii-encode_with, proofs.HexLemmas.IsOk-decode_sized, proofs.HexLemmas.IsOk-written, specs.Hex.decode_sized, specs.Hex.encode_lower, specs.Hex.lower_digits, specs.declared.error.FromHexError.FromHexError}
+use Rattle.std.proofs.Common.{◌≡◌, ℕ, ◌/◌, ◌≤◌, ◌↔◌, List, length, Result, Ok, Err, IsOk, MatchResult, arith, refl, ltb}
+use Rattle.std.proofs.Common.{IsUtf8, rules}
+use Rattle.std.proofs.lemmas.{Bool.ltb-true, List.Sums.AllPass-from_list_all, Str.IsUtf8-from_ascii}
+use Rattle.std.proofs.lemmas.{Str.Ascii.IsAscii-from_all}
+use Rattle.hex.{proofs.HexLemmas.IsAscii-encode_with, proofs.HexLemmas.IsOk-decode_sized, proofs.HexLemmas.IsOk-written}
+use Rattle.hex.{specs.Hex.decode_sized, specs.Hex.encode_lower, specs.Hex.lower_digits}
+use Rattle.hex.{specs.declared.error.FromHexError.FromHexError}
 use Rattle.digest_kinds.specs.Digest.{IsDigits}
 
 -- decoding into room for half as many bytes, 1 to 64, succeeds if and only if the text is a digest's digits

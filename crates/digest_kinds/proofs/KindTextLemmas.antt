@@ -1,8 +1,15 @@
 -- What follows a tag is read as the width of a kind, and the text of a kind names it.
-use Rattle.std.proofs.Common.{ℕ, ◌≤◌, IsUtf8, ◌≡◌, true, List, [], ◌∷◌, ◌++◌, length, drop, Some, refl, ap, inl, inr, arith, rules, take_while, option_map, decimal, ◌*◌}
-use Rattle.std.{proofs.lemmas.Fmt.IsAscii-decimal, proofs.lemmas.Fmt.length-decimal-le, proofs.lemmas.Grind.common_steps, proofs.lemmas.List.drop_at, proofs.lemmas.Str.IsAscii-append, proofs.lemmas.Str.IsUtf8-from_ascii, specs.Char.is_ascii_digit}
-use Rattle.digest_kinds.{proofs.KindLemmas.has_len-range, proofs.BitsLemmas.kind_of_digits-bits, proofs.BitsLemmas.kind_of_digits-some, proofs.BitsLemmas.decimal-digits, proofs.TagLemmas.find-begins, specs.Kind.KindValue}
-use Rattle.digest_kinds.specs.{Kind.full_kind, KindText.IsWidth, KindText.NamesKind, KindText.kind_and_rest, KindText.kind_of_digits, KindText.kind_text, Bytes.after_while, Algo.Algo, Algo.Blake2b, Algo.BeginsWithTag, Algo.has_len, Algo.tag}
+use Rattle.std.proofs.Common.{ℕ, ◌≤◌, IsUtf8, ◌≡◌, true, List, [], ◌∷◌, ◌++◌, length, drop, Some, refl, ap, inl, inr}
+use Rattle.std.proofs.Common.{arith, rules, take_while, option_map, decimal, ◌*◌}
+use Rattle.std.{proofs.lemmas.Fmt.IsAscii-decimal, proofs.lemmas.Fmt.length-decimal-le}
+use Rattle.std.{proofs.lemmas.Grind.common_steps, proofs.lemmas.List.drop_at, proofs.lemmas.Str.IsAscii-append}
+use Rattle.std.{proofs.lemmas.Str.IsUtf8-from_ascii, specs.Char.is_ascii_digit}
+use Rattle.digest_kinds.{proofs.KindLemmas.has_len-range, proofs.BitsLemmas.kind_of_digits-bits}
+use Rattle.digest_kinds.{proofs.BitsLemmas.kind_of_digits-some, proofs.BitsLemmas.decimal-digits}
+use Rattle.digest_kinds.{proofs.TagLemmas.find-begins, specs.Kind.KindValue}
+use Rattle.digest_kinds.specs.{Kind.full_kind, KindText.IsWidth, KindText.NamesKind, KindText.kind_and_rest}
+use Rattle.digest_kinds.specs.{KindText.kind_of_digits, KindText.kind_text, Bytes.after_while, Algo.Algo, Algo.Blake2b}
+use Rattle.digest_kinds.specs.{Algo.BeginsWithTag, Algo.has_len, Algo.tag_of}
 use Rattle.digest_kinds.proofs.PrefixLemmas.{map_some, prefix_passes, prefix-and-rest, prefix_len-all}
 
 -- what follows an algorithm's tag is the width of a kind of that algorithm, and then what is left
@@ -45,17 +52,17 @@ kind_and_rest-alone kind width is = grind (arith, common_steps, prefix_len-all, 
 
 -- a kind that a text names is read after the tag that begins the text, and nothing follows
 pub named_read : (s : List ℕ) (a : Algo) (kind : KindValue) → BeginsWithTag s a → NamesKind s kind
-    → kind_and_rest a (drop (length (tag a)) s) ≡ Some (kind, [])
+    → kind_and_rest a (drop (length (tag_of a)) s) ≡ Some (kind, [])
 named_read s a kind begun named =
     let same : kind.algo ≡ a = grind (arith, find-begins) in
-    rw (← same, named.1, drop_at (tag kind.algo) named.0 (length (tag kind.algo)) refl)
+    rw (← same, named.1, drop_at (tag_of kind.algo) named.0 (length (tag_of kind.algo)) refl)
     (kind_and_rest-alone kind named.0 named.2)
 
 -- if a kind is read after the tag that begins a text, and nothing follows, the text names it
 pub read_named : (s : List ℕ) (a : Algo) (kind : KindValue) → BeginsWithTag s a
-    → kind_and_rest a (drop (length (tag a)) s) ≡ Some (kind, []) → NamesKind s kind
+    → kind_and_rest a (drop (length (tag_of a)) s) ≡ Some (kind, []) → NamesKind s kind
 read_named s a kind begun read =
-    let has = kind_and_rest-some a (drop (length (tag a)) s) (kind, []) read in
+    let has = kind_and_rest-some a (drop (length (tag_of a)) s) (kind, []) read in
     (has.width, grind (arith, common_steps, begun.1, has.whole, has.is_algo), has.is_width)
 
 -- ---- the text of a kind

@@ -1,6 +1,8 @@
 -- Options that have something, and the longest prefix that passes.
-use Rattle.std.proofs.Common.{ℕ, ◌≡◌, Bool, true, false, List, [], ◌∷◌, ◌++◌, length, Option, None, Some, Result, Ok, refl, sym, arith, take_while, option_map}
-use Rattle.std.proofs.lemmas.List.{take-append-drop, take_at, drop_at, Elements.All-head, Elements.All-tail, Elements.All-nil, Folds.prefix_len-append, Sums.take_while-cons}
+use Rattle.std.proofs.Common.{ℕ, ◌≡◌, Bool, true, false, List, [], ◌∷◌, ◌++◌, length, Option, None, Some, Result, Ok}
+use Rattle.std.proofs.Common.{refl, sym, arith, take_while, option_map}
+use Rattle.std.proofs.lemmas.List.{take-append-drop, take_at, drop_at, Elements.All-head, Elements.All-tail}
+use Rattle.std.proofs.lemmas.List.{Elements.All-nil, Folds.prefix_len-append, Sums.take_while-cons}
 use Rattle.std.specs.{List.AllPass, List.prefix_len, Result.result_ok}
 use Rattle.digest_kinds.specs.Bytes.{◌>>=◌, after_while}
 

@@ -4,7 +4,9 @@ use Rattle.md5.specs.Md5.{md5}
 use Rattle.sha1.specs.Sha1.{sha1}
 use Rattle.sha2.specs.{Sha256.sha224, Sha256.sha256, Sha512.sha384, Sha512.sha512}
 use Rattle.blake2b_core.specs.{Bytes.ByteString, Digest.blake2b}
-pub use Rattle.digest_kinds.specs.declared.algo.Algo.{Algo, TheVariants.Md5, TheVariants.Sha1, TheVariants.Sha224, TheVariants.Sha256, TheVariants.Sha384, TheVariants.Sha512, TheVariants.Blake2b}
+pub use Rattle.digest_kinds.specs.declared.algo.Algo.{Algo, TheVariants.Md5, TheVariants.Sha1, TheVariants.Sha224}
+pub use Rattle.digest_kinds.specs.declared.algo.Algo.{TheVariants.Sha256, TheVariants.Sha384, TheVariants.Sha512}
+pub use Rattle.digest_kinds.specs.declared.algo.Algo.{TheVariants.Blake2b}
 
 -- all algorithms
 abbrev pub all_algos : List Algo
@@ -27,18 +29,18 @@ algo_facts Sha512 = record { tag = codes "SHA512"; full_len = 64; digest = λ n 
 algo_facts Blake2b = record { tag = codes "BLAKE2b"; full_len = 64; digest = blake2b }
 
 -- the tag of an algorithm in lines
-abbrev pub tag : Algo → ByteString
-tag algo = (algo_facts algo).tag
+abbrev pub tag_of : Algo → ByteString
+tag_of algo = (algo_facts algo).tag
 
 -- the length of the full digest of an algorithm, in bytes
-abbrev pub full_len : Algo → ℕ
-full_len algo = (algo_facts algo).full_len
+abbrev pub full_len_of : Algo → ℕ
+full_len_of algo = (algo_facts algo).full_len
 
 -- whether an algorithm has digests of n bytes: for BLAKE2b 1 to 64 bytes (RFC 7693, 2.1), for others the full length
 abbrev pub has_len : Algo → ℕ → Bool
 has_len Blake2b n = nat_le 1 n && nat_le n 64
-has_len algo n = n == full_len algo
+has_len algo n = n == full_len_of algo
 
 -- the bytes begin with the tag of the algorithm
 abbrev pub BeginsWithTag : ByteString → Algo → Type 0
-BeginsWithTag bytes algo = (rest : ByteString) × (bytes ≡ tag algo ++ rest)
+BeginsWithTag bytes algo = (rest : ByteString) × (bytes ≡ tag_of algo ++ rest)

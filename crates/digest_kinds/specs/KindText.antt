@@ -1,20 +1,23 @@
 -- The texts that name kinds.
-use Rattle.std.specs.Prelude.{◌≡◌, ℕ, ◌*◌, ◌⊎◌, ◌==◌, ◌&&◌, not, nat_lt, [], ◌∷◌, ◌++◌, length, codes, IsTrue, Option, None, Some, option_map, if◌then◌else◌, decimal, take_while}
+use Rattle.std.specs.Prelude.{◌≡◌, ℕ, ◌*◌, ◌⊎◌, ◌==◌, ◌&&◌, not, nat_lt, [], ◌∷◌, ◌++◌, length, codes, IsTrue, Option}
+use Rattle.std.specs.Prelude.{None, Some, option_map, if◌then◌else◌, decimal, take_while}
 use Rattle.std.specs.{Char.is_ascii_digit, Result.result_ok, Str.byte, Str.Parse.digits_value}
-use Rattle.digest_kinds.specs.{Algo.Algo, Algo.Blake2b, Algo.full_len, Algo.has_len, Algo.tag, Bytes.ByteString, Bytes.◌>>=◌, Bytes.after_while, Kind.KindValue, Kind.full_kind, Kind.blake2b_of_bits}
+use Rattle.digest_kinds.specs.{Algo.Algo, Algo.Blake2b, Algo.full_len_of, Algo.has_len, Algo.tag_of, Bytes.ByteString}
+use Rattle.digest_kinds.specs.{Bytes.◌>>=◌, Bytes.after_while, Kind.KindValue, Kind.full_kind, Kind.blake2b_of_bits}
 
 -- the text that names a kind: the tag and, for a BLAKE2b digest that isn't full, its bits, as in `BLAKE2b-256`
 abbrev pub kind_text : KindValue → ByteString
-kind_text kind = tag kind.algo ++ (if kind.len == full_len kind.algo then [] else codes "-" ++ decimal (8 * kind.len))
+kind_text kind = tag_of kind.algo
+    ++ (if kind.len == full_len_of kind.algo then [] else codes "-" ++ decimal (8 * kind.len))
 
 -- this width may follow a kind's tag: nothing for the full length, or `-` and the length in bits, 8 to 512, for BLAKE2b
 abbrev pub IsWidth : KindValue → ByteString → Type 0
-IsWidth kind width = ((width ≡ []) × (kind.len ≡ full_len kind.algo))
+IsWidth kind width = ((width ≡ []) × (kind.len ≡ full_len_of kind.algo))
     ⊎ ((width ≡ codes "-" ++ decimal (8 * kind.len)) × (kind.algo ≡ Blake2b) × IsTrue (has_len Blake2b kind.len))
 
 -- a text names a kind: it is the tag and a width; so `BLAKE2b` and `BLAKE2b-512` name the same kind
 abbrev pub NamesKind : ByteString → KindValue → Type 0
-NamesKind text kind = (width : ByteString) × (text ≡ tag kind.algo ++ width) × IsWidth kind width
+NamesKind text kind = (width : ByteString) × (text ≡ tag_of kind.algo ++ width) × IsWidth kind width
 
 -- ---- computed: these need not be believed
 

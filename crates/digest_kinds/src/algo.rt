@@ -1,6 +1,6 @@
 //! The algorithms and their tags.
 
-ghost use Rattle.digest_kinds.specs.Algo.{all_algos, full_len, tag, BeginsWithTag};
+ghost use Rattle.digest_kinds.specs.Algo.{all_algos, full_len_of, tag_of, BeginsWithTag};
 ghost use Rattle.std.specs.{Fmt.styled_text, List.starts_with};
 ghost use Rattle.std.specs.Prelude.{◌≡◌, ◌==◌, Some, IfSome, Ok, IfOk, find};
 
@@ -62,7 +62,7 @@ impl Algo {
 
     // The first algorithm whose tag is a prefix of the bytes.
     fn first_begun(bytes: &[u8]) -> Option<Algo>
-        ensures { result ≡ find (λ a. starts_with ◌==◌ bytes.now (tag a)) all_algos }
+        ensures { result ≡ find (λ a. starts_with ◌==◌ bytes.now (tag_of a)) all_algos }
     {
         Self::ALL
             .iter()
@@ -72,22 +72,22 @@ impl Algo {
 
     /// Returns the tag, by which a tagged line names the algorithm.
     pub fn tag(self) -> &'static str
-        ensures { result.now ≡ tag self }
+        ensures { result.now ≡ tag_of self }
     {
         self.facts().0
     }
 
     /// The number of bytes of the full digest.
     pub(crate) fn full_len(self) -> usize
-        ensures { result ≡ full_len self }
+        ensures { result ≡ full_len_of self }
     {
         self.facts().1
     }
 
     // The tag, and the number of bytes of the full digest.
     fn facts(self) -> (&'static str, usize)
-        ensures tag { result.0.now ≡ tag self }
-        ensures full_len { result.1 ≡ full_len self }
+        ensures tag { result.0.now ≡ tag_of self }
+        ensures full_len { result.1 ≡ full_len_of self }
     {
         match self {
             Algo::Md5 => ("MD5", 16),
@@ -112,7 +112,7 @@ impl FromStr for Algo {
     type Err = UnknownTag;
 
     // The text is the tag of the returned algorithm, and for each tag its algorithm is returned.
-    ghost from_str_gives = { λ s r. IfOk r (λ a. s ≡ tag a) × ((a : Algo) → s ≡ tag a → r ≡ Ok a) };
+    ghost from_str_gives = { λ s r. IfOk r (λ a. s ≡ tag_of a) × ((a : Algo) → s ≡ tag_of a → r ≡ Ok a) };
 
     /// Returns the algorithm with this tag.
     fn from_str(s: &str) -> Result<Algo, UnknownTag> {
@@ -124,9 +124,9 @@ impl FromStr for Algo {
 }
 
 impl fmt::Display for Algo {
-    ghost output = { λ a. Some (tag a) };
+    ghost output = { λ a. Some (tag_of a) };
 
-    ghost styled_output = { λ a spec. Some (styled_text spec (tag a)) };
+    ghost styled_output = { λ a spec. Some (styled_text spec (tag_of a)) };
 
     /// Writes the tag, padded as a text is.
     fn fmt<W: fmt::Write>(&self, f: &mut fmt::Formatter<W>) -> fmt::Result {

@@ -1,8 +1,8 @@
 //! An algorithm with its digest's length.
 
 ghost use Rattle.blake2b_core.specs.Digest.{IsDigestLen};
-ghost use Rattle.digest_kinds.specs.{Algo.tag, Bytes.LIMIT};
-ghost use Rattle.digest_kinds.specs.Kind.{blake2b_kind, full_kind, blake2b_of_bits, digest};
+ghost use Rattle.digest_kinds.specs.{Algo.tag_of, Bytes.LIMIT};
+ghost use Rattle.digest_kinds.specs.Kind.{blake2b_kind, full_kind, blake2b_of_bits, message_digest};
 ghost use Rattle.std.specs.Prelude.{◌≡◌, ◌↔◌, ◌*◌, ◌<◌, length, IsSome, IfSome};
 
 use crate::algo::Algo;
@@ -102,7 +102,7 @@ impl Kind {
     /// Computes the digest of a message, which must have fewer than [`LIMIT`](crate::LIMIT) bytes.
     pub fn digest(self, message: &[u8]) -> Digest
         requires { length message.now < LIMIT }
-        ensures { result ≡ digest self message.now }
+        ensures { result ≡ message_digest self message.now }
     {
         let mut hasher = AnyHasher::new(self);
         hasher.update(message);
@@ -111,7 +111,7 @@ impl Kind {
 
     /// Returns the algorithm's tag, by which a tagged line names it.
     pub fn tag(self) -> &'static str
-        ensures { result.now ≡ tag self.algo }
+        ensures { result.now ≡ tag_of self.algo }
     {
         self.algo.tag()
     }

@@ -1,6 +1,6 @@
 //! The texts that name kinds, such as `SHA256` and `BLAKE2b-256`.
 
-ghost use Rattle.digest_kinds.specs.{Algo.BeginsWithTag, Algo.tag, Bytes.after_while, Kind.KindValue};
+ghost use Rattle.digest_kinds.specs.{Algo.BeginsWithTag, Algo.tag_of, Bytes.after_while, Kind.KindValue};
 ghost use Rattle.digest_kinds.specs.KindText.{NamesKind, kind_and_rest, kind_of_digits, kind_text, short_number};
 ghost use Rattle.digest_kinds.specs.declared.kind_text.TheConstants.{LONGEST_KIND_TEXT};
 ghost use Rattle.std.specs.{Char.is_ascii_digit, Fmt.styled_text, List.AllPass, List.prefix_len, Option.option_map};
@@ -48,7 +48,7 @@ impl Kind {
     pub fn of_tag_prefix(algo: Algo, bytes: &[u8]) -> Option<KindPrefix<'_>>
         requires { BeginsWithTag bytes.now algo }
         ensures { option_map (λ w. (w.kind, w.rest.now)) result
-            ≡ kind_and_rest algo (drop (length (tag algo)) bytes.now) }
+            ≡ kind_and_rest algo (drop (length (tag_of algo)) bytes.now) }
     {
         let rest = &bytes[algo.tag().len()..];
         match algo {

@@ -5,7 +5,7 @@
 //! SHA-1 and SHA-2 (FIPS 180-4) the definition is the kit's, and published vectors test that it is the standard's.
 //!
 //! Everything that the other crates say about algorithms and digests belongs here, and nothing about lines, files or
-//! tools. The crate calls `blake2b_core`, the kit's digests, `hex`, `itoa` and `std`, and it takes no memory.
+//! tools. The crate takes no memory.
 //!
 //! ```rust
 //! let kind: Kind = "BLAKE2b-256".parse()?;

@@ -1,7 +1,7 @@
 //! What the contracts of hashers, of kinds and of algorithms give a caller.
 ghost use Rattle.blake2b_core.specs.Blake2b.{HasTaken, digest_len, taken_count};
 ghost use Rattle.blake2b_core.specs.Digest.{IsDigestLen, blake2b};
-ghost use Rattle.digest_kinds.specs.{Bytes.ByteString, Bytes.LIMIT, Kind.digest};
+ghost use Rattle.digest_kinds.specs.{Bytes.ByteString, Bytes.LIMIT, Kind.message_digest};
 ghost use Rattle.std.specs.Prelude.{◌≡◌, ◌↔◌, ◌+◌, ◌<◌, ◌++◌, if◌then◌else◌, length, take, slice_get, nat_lt, Some, Ok};
 ghost use Rattle.std.specs.Prelude.{IsSome, IfSome};
 
@@ -12,7 +12,7 @@ use digest_kinds::{Algo, Digest, Hasher, Kind, UnknownTag};
 /// message.
 pub fn digest_with<H: Hasher>(mut hasher: H, piece: &[u8]) -> (Digest, Kind, u64)
     ensures digest { (m : ByteString) → H.holds hasher m →
-        result.0 ≡ digest result.1 (take result.2 (m ++ piece.now)) }
+        result.0 ≡ message_digest result.1 (take result.2 (m ++ piece.now)) }
     ensures kind { result.1 ≡ H.kind_of hasher }
     ensures taken { let all = H.taken_of hasher + length piece.now in
         result.2 ≡ (if nat_lt all LIMIT then all else H.taken_of hasher) }

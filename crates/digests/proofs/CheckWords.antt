@@ -1,12 +1,15 @@
 -- The words of a check ask for that check.
 use Rattle.std.proofs.Common.{arith, ◌≡◌, Bool, true, not, List, [], ◌∷◌, ◌++◌, map, codes, Ok, refl, ap, sym, ◌∙◌}
-use Rattle.std.{proofs.lemmas.Bool.and_parts, proofs.lemmas.Grind.common_steps, specs.List.list_all, specs.Str.chars, specs.Str.is_utf8}
+use Rattle.std.{proofs.lemmas.Bool.and_parts, proofs.lemmas.Grind.common_steps, specs.List.list_all, specs.Str.chars}
+use Rattle.std.{specs.Str.is_utf8}
 use lib.Utf8.{encode}
 use Rattle.sum_settings.specs.declared.settings.{CheckSettings.CheckSettings, Report.Report}
-use Rattle.sum_words.specs.{Tool.algos_of, declared.parsing.options.Flag.Flag, declared.parsing.request.Request.TheVariants.Check, declared.tool.Tool.Tool}
-use Rattle.sum_words.specs.parsing.{Items.option, Items.operand, Items.a_word, Items.items_from, Options.full_name, Options.takes_value, Options.name_or_fault, Request.request}
+use Rattle.sum_words.specs.{Tool.algos_of, declared.parsing.options.Flag.Flag}
+use Rattle.sum_words.specs.{declared.parsing.request.Request.TheVariants.Check, declared.tool.Tool.Tool}
+use Rattle.sum_words.specs.parsing.{Items.option, Items.operand, Items.a_word, Items.items_from, Options.full_name}
+use Rattle.sum_words.specs.parsing.{Options.takes_value, Options.name_or_fault, Request.request}
 use Rattle.digest_kinds.specs.Bytes.{ByteString}
-use Rattle.digests.specs.GenerationRuns.{check_options, check_words}
+use Rattle.digests.specs.Laws.{check_options, check_words}
 
 -- ---- long options that every tool has, and that take no value
 

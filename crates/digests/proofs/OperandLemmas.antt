@@ -1,12 +1,15 @@
 -- Operands, one after another: after those before, the rest completes the whole.
 use Rattle.std.proofs.Common.{◌≡◌, ℕ, Bool, true, List, [], ◌∷◌, ◌++◌, Option, None, Some, Result, Ok, Err, ◌&&◌, Bor}
 use Rattle.std.{proofs.Math.Bool.and_assoc, proofs.lemmas.Bool.and_parts, specs.Iterator.YieldsFirstRef}
-use Rattle.sum_engine.specs.{Behavior.World, Behavior.world_after, Behavior.Step, Behavior.Behavior, Behavior.trace, Behavior.asks, Streams.StreamsState}
+use Rattle.sum_engine.specs.{Behavior.World, Behavior.world_after, Behavior.Step, Behavior.Behavior, Behavior.trace}
+use Rattle.sum_engine.specs.{Behavior.names_in, Streams.StreamsState}
 use Rattle.sum_engine.specs.Execution.{ReadsToEndIf, Agrees, world_at, Happened, Performs, PerformsSteps}
-use Rattle.sum_engine.proofs.{WorldLemmas.reads_then, WorldLemmas.agrees_before, WorldLemmas.world_at_after, BehaviorLemmas.behavior_then-happened, BehaviorLemmas.behavior_then-first, BehaviorLemmas.behavior_then-second, BehaviorLemmas.events_extend}
+use Rattle.sum_engine.proofs.{WorldLemmas.reads_then, WorldLemmas.agrees_before, WorldLemmas.world_at_after}
+use Rattle.sum_engine.proofs.{BehaviorLemmas.behavior_then-happened, BehaviorLemmas.behavior_then-first}
+use Rattle.sum_engine.proofs.{BehaviorLemmas.behavior_then-second, BehaviorLemmas.events_extend}
 use Rattle.digest_kinds.specs.Bytes.{ByteString}
 use Rattle.sum_settings.specs.declared.stop.Stop.{Stop}
-use Rattle.digests.specs.Meaning.{operands_behavior, status_of}
+use Rattle.digests.specs.ToolRun.{operands_behavior, status_of}
 
 -- the operands that are left: none, or the next one and those after it
 abbrev pub left : Option (Bor ByteString) → List ByteString → List ByteString
@@ -20,7 +23,8 @@ left-next old new None h = h.0
 left-next old new (Some name) h = h
 
 -- steps happened, and then others were performed
-PerformsSteps-append : {A : Type 0} {a b : StreamsState} (c : StreamsState) (x : A) (r s : List Step) (y : Result A Stop)
+PerformsSteps-append : {A : Type 0} {a b : StreamsState} (c : StreamsState) (x : A) (r s : List Step)
+    (y : Result A Stop)
     → Happened a b (trace r) → PerformsSteps s x b c y → PerformsSteps (r ++ s) x a c y
 PerformsSteps-append c x r s (Ok z) h k = (k.0, behavior_then-happened r s h k.1)
 PerformsSteps-append c x r s (Err stop) h k = behavior_then-second c x x r s stop h k
@@ -50,7 +54,7 @@ module _ {one : World → ByteString → Behavior} {names : List ByteString} whe
     completes = λ w agrees end r did.
         let q = k w agrees in
         let run = one (world_at w y.inputs) name in
-        let world = world_at_after w y.inputs z.inputs (asks run) (events_extend run y z q.1).0 in
+        let world = world_at_after w y.inputs z.inputs (names_in run) (events_extend run y z q.1).0 in
         h.completes w (agrees_before agrees reads) end r
         (PerformsSteps-append end _ run.steps _ r q.1 (rw (world, q.0, and_assoc) at did));
   }
@@ -64,7 +68,7 @@ module _ {one : World → ByteString → Behavior} {names : List ByteString} whe
   operands_done_stop {good = good} {name = name} {rest = rest} {y = y} stop z h reads k = λ w agrees.
       let v = world_at w y.inputs in
       let run = one v name in
-      let later = operands_behavior one (world_after v (asks run)) rest in
+      let later = operands_behavior one (world_after v (names_in run)) rest in
       h.completes w (agrees_before agrees reads) z (Err stop)
       (behavior_then-first y z (status_of (good && (run.good && later.good))) run.good run.steps later.steps stop
       (k w agrees))

@@ -1,15 +1,23 @@
 -- What generation writes is good under checking.
-use Rattle.std.proofs.Common.{rules, ◌≡◌, ℕ, false, List, [], ◌∷◌, length, map, refl, ap, sym, ◌∙◌, append-nil, map-id, Ok, flat_map, All, Err}
+use Rattle.std.proofs.Common.{rules, ◌≡◌, ℕ, false, List, [], ◌∷◌, length, map, refl, ap, sym, ◌∙◌, append-nil, map-id}
+use Rattle.std.proofs.Common.{Ok, flat_map, All, Err}
 use Rattle.std.proofs.lemmas.List.Elements.{All-nil, All-head, All-tail, All-append, All-map}
-use Rattle.std.proofs.lemmas.{List.length-map, List.map-append, List.Concat.flat_map-append, List.Folds.flat_map-map, Simd.map-map}
-use Rattle.digest_kinds.specs.{Bytes.ByteString, Kind.digest, declared.algo.Algos.Algos}
-use Rattle.sum_engine.proofs.{GoodLemmas.manifest_good, ListedEntryLemmas.Item, ListedEntryLemmas.written_text, ListedEntryLemmas.Listed}
-use Rattle.sum_engine.specs.{Behavior.World, Behavior.answer_to, Behavior.world_after, Behavior.digest_or_fault, Behavior.out_text, Behavior.asks, Generate.generate_behavior, check.Report.out_by, declared.check.judge.Verdict.TheVariants.Right}
+use Rattle.std.proofs.lemmas.{List.length-map, List.map-append, List.Concat.flat_map-append, List.Folds.flat_map-map}
+use Rattle.std.proofs.lemmas.{Simd.map-map}
+use Rattle.digest_kinds.specs.{Bytes.ByteString, Kind.message_digest, declared.algo.Algos.Algos}
+use Rattle.sum_engine.proofs.{GoodLemmas.manifest_good, ListedEntryLemmas.Item, ListedEntryLemmas.written_text}
+use Rattle.sum_engine.proofs.{ListedEntryLemmas.Listed}
+use Rattle.sum_engine.specs.{Behavior.World, Behavior.answer_to, Behavior.world_after, Behavior.digest_or_fault}
+use Rattle.sum_engine.specs.{Behavior.out_text, Behavior.names_in, Generate.generate_behavior, check.Report.out_by}
+use Rattle.sum_engine.specs.{declared.check.judge.Verdict.TheVariants.Right}
 use Rattle.sum_settings.specs.declared.settings.Settings.{Settings}
 use Rattle.sum_sources.specs.sources.Source.{times, AnswerValue}
+use Rattle.sum_sources.proofs.ContentLemmas.{clip-short}
+use Rattle.sum_sources.specs.declared.fault.Ending.TheVariants.{Whole}
 use Rattle.sum_words.specs.Tool.{name_of}
-use Rattle.digests.specs.GenerationRuns.{IsListable, GenerationRun, generation_output, IsCheckable, HasFiles, IsAccepted}
-use Rattle.digests.{proofs.CheckWords.request-check_words, specs.Meaning.operands_behavior}
+use Rattle.digests.specs.Laws.{IsListable, GenerationRun, generation_output, IsCheckable, HasFiles, IsAccepted}
+use Rattle.digests.{proofs.CheckWords.request-check_words}
+use Rattle.digests.specs.ToolRun.{operands_behavior}
 
 -- ---- the lines of a run
 
@@ -32,8 +40,12 @@ module _ (algos : Algos) (files later : ByteString → AnswerValue) where
       → s.style.zero ≡ false → IsListable files name
       → out_text (generate_behavior s tool w name) ≡ written_text (item files s name)
   line-is s tool w name has newlines h =
-      let read : digest_or_fault s.kind (answer_to w name) ≡ Ok (digest s.kind (bytes_of (files name))) =
-      rw (has name (times name w.opened) h.no_dash) (search rules) in
+      let read : digest_or_fault s.kind (answer_to w name) ≡ Ok (message_digest s.kind (bytes_of (files name))) =
+      rw (
+        has name (times name w.opened) h.no_dash,
+        h.content,
+        clip-short (record { bytes = h.bytes; ending = Whole }) h.fits,
+      ) refl in
       rw (read, newlines, append-nil) refl
 
   lines-are : (s : Settings) (tool : ByteString) (names : List ByteString) (w : World) → HasFiles w files
@@ -43,7 +55,7 @@ module _ (algos : Algos) (files later : ByteString → AnswerValue) where
   lines-are s tool [] w has newlines all = refl
   lines-are s tool (name ∷ names) w has newlines all =
       let first = line-is s tool w name has newlines (All-head (IsListable files) name names all) in
-      let others = lines-are s tool names (world_after w (asks (generate_behavior s tool w name))) has newlines
+      let others = lines-are s tool names (world_after w (names_in (generate_behavior s tool w name))) has newlines
       (All-tail (IsListable files) name names all) in
       rw (flat_map-append, first, others) refl
 

@@ -1,5 +1,4 @@
-pub mod Meaning
+pub mod ToolRun
 pub mod Program
-pub mod GenerationRuns
-pub mod InMemory
+pub mod Laws
 pub mod private

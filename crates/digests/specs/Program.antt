@@ -1,12 +1,15 @@
 -- What the program does, from the list of its arguments to its status.
-use Rattle.std.specs.Prelude.{ℕ, ◌≡◌, ◌⊎◌, false, List, [], ◌++◌, codes, ⊤, Option, None, Some, Result, Ok, Err, unwrap_or}
+use Rattle.std.specs.Prelude.{ℕ, ◌≡◌, ◌⊎◌, false, List, [], ◌++◌, codes, ⊤, Option, None, Some, Result, Ok, Err}
+use Rattle.std.specs.Prelude.{unwrap_or}
 use Rattle.digest_kinds.specs.Bytes.{ByteString}
 use Rattle.sum_settings.specs.declared.stop.Stop.{Stop, TheVariants.Memory, TheVariants.Write}
 use Rattle.sum_lines.specs.sinks.Output.{OutputState, GivesAll}
-use Rattle.sum_sources.specs.sources.Source.{Pair}
-use Rattle.sum_engine.specs.{Behavior.single_step, Execution.Performs, Streams.BothOutputs, Streams.StreamsState, Streams.FailuresMatch}
-use Rattle.sum_words.specs.{Arguments.ArgumentsState, Arguments.FitsArguments, CommandLine.command_line, CommandLine.NeedsMemory, Tool.name_of, declared.tool.Tool.Tool}
-use Rattle.digests.specs.Meaning.{meaning, status_of}
+use Rattle.sum_sources.specs.sources.Source.{ToldAnswer}
+use Rattle.sum_engine.specs.{Behavior.World, Behavior.Behavior, Behavior.single_step, Execution.Performs}
+use Rattle.sum_engine.specs.{Streams.BothOutputs, Streams.StreamsState, Streams.FailuresMatch}
+use Rattle.sum_words.specs.{Arguments.ArgumentsState, Arguments.FitsArguments, CommandLine.command_line}
+use Rattle.sum_words.specs.{CommandLine.NeedsMemory, Tool.name_of, declared.tool.Tool.Tool}
+use Rattle.digests.specs.ToolRun.{meaning, status_of}
 
 -- the line for an unknown or missing tool
 abbrev pub unknown_tool_line : ByteString
@@ -29,21 +32,29 @@ ReportsStop tool (Ok run_status) before after status = (status ≡ run_status) �
 ReportsStop tool (Err stop) before after status = (status ≡ 1) × (after ≡ record before { err = after.err })
     × (line_result : Result ⊤ ⊤) × GivesAll before.err after.err (stop_line tool stop) line_result
 
--- THE PROGRAM, for one call. Its run does what `performs` says. A stop is then reported, if the call has a tool
-abbrev pub CallPerforms : Option Tool → (StreamsState → StreamsState → Result ℕ Stop → Type 0)
-    → StreamsState → StreamsState → ℕ → Type 0
-CallPerforms tool performs before after status = (result : Result ℕ Stop) × (between : StreamsState)
-    × performs before between result × FailuresMatch before.outputs between.outputs result
-    × (after.inputs ≡ between.inputs) × ReportsStop tool result between.outputs after.outputs status
+-- THE PROGRAM, for one call. Its run does what `Runs` says. A stop is then reported, if the call has a tool
+pub record CallPerforms (tool : Option Tool) (Runs : StreamsState → StreamsState → Result ℕ Stop → Type 0)
+    (before after : StreamsState) (status : ℕ) : Type 0 where
+  pub result : Result ℕ Stop
+  pub between : StreamsState
+  pub runs : Runs before between result
+  pub failures : FailuresMatch before.outputs between.outputs result
+  pub inputs : after.inputs ≡ between.inputs
+  pub end : ReportsStop tool result between.outputs after.outputs status
 
--- a call without a tool: its run writes this line to standard error, and isn't good
+-- a call that runs no tool: it writes this line to standard error, and isn't good. Nothing is written for a stop
 abbrev pub CallRefuses : ByteString → StreamsState → StreamsState → ℕ → Type 0
 CallRefuses line = CallPerforms None (Performs (λ world. single_step [] line [] false) status_of)
 
--- a call of a tool performs what the words mean. A call of no tool writes that the tool is unknown
+-- a call of a tool runs what the words mean, as Runs says. A call of no tool writes that the tool is unknown
+abbrev pub CommandRuns : ((World → Behavior) → StreamsState → StreamsState → Result ℕ Stop → Type 0)
+    → Option (Tool × List ByteString) → StreamsState → StreamsState → ℕ → Type 0
+CommandRuns Runs None = CallRefuses unknown_tool_line
+CommandRuns Runs (Some (tool, words)) = CallPerforms (Some tool) (Runs (meaning tool words))
+
+-- a call of a tool performs what the words mean
 abbrev pub CommandPerforms : Option (Tool × List ByteString) → StreamsState → StreamsState → ℕ → Type 0
-CommandPerforms None = CallRefuses unknown_tool_line
-CommandPerforms (Some (tool, words)) = CallPerforms (Some tool) (Performs (meaning tool words) status_of)
+CommandPerforms = CommandRuns (λ behavior. Performs behavior status_of)
 
 -- THE PROGRAM, for each list of arguments that agrees: the call does what it asks, or refuses a list that needs memory
 abbrev pub ProgramPerforms : ArgumentsState → StreamsState → StreamsState → ℕ → Type 0
@@ -58,7 +69,7 @@ abbrev pub fresh_output : Option ByteString → OutputState
 fresh_output held = record { offered = []; written = unwrap_or held []; failures = 0 }
 
 -- the state of streams before their first call: what is in memory, and what the writers of both outputs hold
-abbrev pub fresh_streams : List Pair → Option ByteString → Option ByteString → StreamsState
+abbrev pub fresh_streams : List ToldAnswer → Option ByteString → Option ByteString → StreamsState
 fresh_streams told out err = record {
   inputs = record { told = told; openings = []; refusals = 0 };
   outputs = record { out = fresh_output out; err = fresh_output err };

@@ -1,7 +1,7 @@
 //! The whole program, from the list of its arguments to its exit status.
 ghost use Rattle.digests.specs.{Program.ProgramPerforms, private.Finish.Refuses, private.Messages.message_text};
 ghost use Rattle.std.specs.Prelude.{◌≡◌, []};
-ghost use Rattle.sum_engine.specs.{Execution.ReadsToEndIf, Streams.failures};
+ghost use Rattle.sum_engine.specs.{Execution.ReadsToEndIf, Streams.failures_of};
 
 use crate::finish::finish_run;
 use crate::messages::Message;
@@ -24,14 +24,14 @@ pub fn command<A: Allocator + Copy, G: Arguments, S: Source, O: Sink, E: Sink>(
     arguments: &mut G,
     streams: &mut Streams<S, O, E>,
 ) -> u8
-    requires { (G.state arguments.old).given ≡ [] }
+    requires given { (G.state arguments.old).given ≡ [] }
     // The behavior of every list of arguments that agrees with what was given, in every world that agrees with what was
     // read.
     ensures behavior { ProgramPerforms (G.state arguments.new) streams.old streams.new result }
     ensures told { (G.state arguments.new).told ≡ (G.state arguments.old).told }
 
     // One way: the status is 0 only if no call of either output failed.
-    ensures no_failures { result ≡ 0 → failures streams.new.outputs ≡ failures streams.old.outputs }
+    ensures no_failures { result ≡ 0 → failures_of streams.new.outputs ≡ failures_of streams.old.outputs }
     // The status is 0 only if everything that was opened was read to its end; nothing was read further.
     ensures reads { ReadsToEndIf (result ≡ 0) streams.old.inputs streams.new.inputs }
 {

@@ -1,7 +1,7 @@
 //! The end of a run: both outputs are flushed once more, and a stop is reported in a line.
 ghost use Rattle.digests.specs.{Program.stop_line, private.Finish.FinishesRun, private.Finish.FlushesBoth};
 ghost use Rattle.std.specs.Prelude.{◌≡◌, Ok};
-ghost use Rattle.sum_engine.specs.Streams.{failures};
+ghost use Rattle.sum_engine.specs.Streams.{failures_of};
 ghost use Rattle.sum_lines.specs.sinks.Output.{GivesAll};
 
 use crate::messages::Message;
@@ -18,7 +18,7 @@ pub(crate) fn finish_run<O: Sink, E: Sink>(
 ) -> u8
     ensures finish { FinishesRun tool outcome outputs.old outputs.new result }
     ensures good_run { result ≡ 0 → outcome ≡ Ok 0 }
-    ensures no_failures { result ≡ 0 → failures outputs.new ≡ failures outputs.old }
+    ensures no_failures { result ≡ 0 → failures_of outputs.new ≡ failures_of outputs.old }
 {
     match flush_both(outcome, outputs) {
         Ok(status) => status,

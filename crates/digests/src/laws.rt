@@ -1,7 +1,7 @@
 //! The laws of a run and of the program over files in memory, and of what the tools wrote. Each is the contract of a
 //! function that does nothing.
-ghost use Rattle.digests.specs.GenerationRuns.{IsAccepted, GenerationRun};
-ghost use Rattle.digests.specs.InMemory.{MeansInMemory, MeansProgramInMemory};
+ghost use Rattle.digests.specs.Laws.{IsAccepted, GenerationRun};
+ghost use Rattle.digests.specs.Laws.{MeansInMemory, MeansProgramInMemory};
 ghost use Rattle.std.specs.Prelude.{List, [], ◌∷◌};
 
 use sum_engine::Streams;
@@ -15,7 +15,7 @@ use sum_words::laws::some_list_agrees;
 /// answers. Then the outputs got exactly the bytes, and `run` returned exactly the status, that the words mean by these
 /// answers; or it stopped, and a prefix of the run happened.
 pub fn told_performs<S: Source, O: Sink, E: Sink>(streams: &Streams<S, O, E>)
-    ensures { MeansInMemory S.tells streams.now }
+    ensures meaning { MeansInMemory S.tells streams.now }
 {
     told_agree(&streams.inputs);
 }
@@ -26,7 +26,7 @@ pub fn told_program_performs<G: Arguments, S: Source, O: Sink, E: Sink>(
     arguments: &G,
     streams: &Streams<S, O, E>,
 )
-    ensures { MeansProgramInMemory S.tells (G.state arguments.now) streams.now }
+    ensures meaning { MeansProgramInMemory S.tells (G.state arguments.now) streams.now }
 {
     some_list_agrees(arguments);
     told_agree(&streams.inputs);
@@ -40,11 +40,11 @@ pub fn told_program_performs<G: Arguments, S: Source, O: Sink, E: Sink>(
 /// a NUL. Each file could be read to its end, has fewer than 2^61 bytes and remains unchanged. The manifest has fewer
 /// than 2^61 bytes, too. `anysum` accepts it as the tool does, if its lines are tagged.
 pub fn written_is_good()
-    ensures { (g : GenerationRun) → IsAccepted (g ∷ []) }
+    ensures accepted { (g : GenerationRun) → IsAccepted (g ∷ []) }
 {}
 
 /// Several such manifests of one tool can be joined into one of fewer than 2^61 bytes, and the tool accepts it, too.
 /// Tagged manifests of any tools can be joined for `anysum`.
 pub fn joined_is_good()
-    ensures { (gs : List GenerationRun) → IsAccepted gs }
+    ensures accepted { (gs : List GenerationRun) → IsAccepted gs }
 {}

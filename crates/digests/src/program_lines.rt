@@ -10,21 +10,21 @@ use sum_words::Tool;
 
 /// Writes the line for an unknown or missing tool to the buffer.
 pub fn put_unknown<E: Sink>(err: &mut Buffered<E>) -> Result<(), SinkFault>
-    ensures { WritesAll err.old err.new unknown_tool_line result }
+    ensures text { WritesAll err.old err.new unknown_tool_line result }
 {
     put_all(err, b"digests: unknown tool\n")
 }
 
 /// Writes the line for words that could not be read to the buffer.
 pub fn put_not_read<E: Sink>(err: &mut Buffered<E>) -> Result<(), SinkFault>
-    ensures { WritesAll err.old err.new not_read_line result }
+    ensures text { WritesAll err.old err.new not_read_line result }
 {
     put_all(err, b"digests: words not read\n")
 }
 
 /// Writes the line for a stop of a tool's run to the buffer.
 pub fn put_stop<E: Sink>(err: &mut Buffered<E>, tool: Tool, stop: Stop) -> Result<(), SinkFault>
-    ensures { WritesAll err.old err.new (stop_line (Some tool) stop) result }
+    ensures text { WritesAll err.old err.new (stop_line (Some tool) stop) result }
 {
     let name = Part::Bytes(tool.name().as_bytes());
     put_parts(err, &[name, after_name(stop)])

@@ -9,11 +9,12 @@ use std::io::Read;
 use std::os::fd::AsFd;
 use sum_sources::{EBADF, FromRead, Stdin};
 
-/// Standard input, before its first read. This function must notice a closed one before any file is opened: the system
-/// would give its descriptor to the next file, and that file's bytes would be read as standard input. The contract
-/// doesn't say which of the two it returns.
+/// Standard input before its first read, closed or open: no clause says which of the two it is.
+///
+/// This function must notice a closed one before any file is opened: the system would give its descriptor to the next
+/// file, and that file's bytes would be read as standard input.
 pub fn standard_input<I: Read + AsFd + Drop>(stdin: I) -> Stdin<FromRead<I>>
-    ensures { (result ≡ (false, Some (Closed (Broken bad_descriptor) Unfinished)))
+    ensures stdin { (result ≡ (false, Some (Closed (Broken bad_descriptor) Unfinished)))
         ⊎ (result ≡ (false, Some (Open (record { reader = stdin; log = no_reads })))) }
 {
     match stdin.as_fd().try_clone_to_owned() {

@@ -1,9 +1,9 @@
 //! The program over what the system gives it. `main` calls nothing else of ours.
 ghost use Rattle.digests.specs.Program.{ProgramPerforms, fresh_streams};
 ghost use Rattle.std.specs.Prelude.{ℕ, suc, All, ◌≡◌, Ok, codes};
-ghost use Rattle.sum_engine.specs.{Behavior.World, Execution.Agrees, Execution.ReadsFile, Streams.failures};
+ghost use Rattle.sum_engine.specs.{Behavior.World, Execution.Agrees, Execution.ReadsFile, Streams.failures_of};
 ghost use Rattle.sum_sources.specs.inputs.Input.{empty_content};
-ghost use Rattle.sum_words.specs.SystemArguments.{system_arguments_state};
+ghost use Rattle.sum_words.specs.System.{system_arguments_state};
 
 use crate::command_run::command;
 use crate::standard_input::standard_input;
@@ -58,7 +58,7 @@ where
         × ((k : ℕ) → w.answer (codes "-") (suc k) ≡ Ok empty_content) }
 
     // One way: the status is 0 only if no call of either output failed.
-    ensures no_failures { result.status ≡ 0 → failures result.streams.outputs ≡ (0, 0) }
+    ensures no_failures { result.status ≡ 0 → failures_of result.streams.outputs ≡ (0, 0) }
     // The status is 0 only if everything that was opened was read to its end; nothing was read further.
     ensures reads { All (ReadsFile (result.status ≡ 0)) result.streams.inputs.openings }
 {

@@ -1,11 +1,10 @@
 //! The run of a tool on its words.
-ghost use Rattle.digests.specs.Meaning.{operands_behavior, request_behavior, names_or_dash, meaning, status_of};
-ghost use Rattle.digests.specs.Meaning.{allowed_refusals};
-ghost use Rattle.digests.specs.private.ToolRun.{operand_behavior, job_refusals};
+ghost use Rattle.digests.specs.ToolRun.{operands_behavior, request_behavior, names_or_dash, meaning, status_of};
+ghost use Rattle.digests.specs.private.ToolRun.{operand_behavior};
 ghost use Rattle.std.specs.Prelude.{◌≡◌, ◌∷◌, true, Ok};
 ghost use Rattle.sum_engine.specs.Execution.{ReadsToEndIf, Performs};
-ghost use Rattle.sum_engine.specs.Streams.{FailuresMatch, RefusalsMatch, StopHasCause};
-ghost use Rattle.sum_words.specs.{Tool.name_of, parsing.Request.request, parsing.WordFault.result_value};
+ghost use Rattle.sum_engine.specs.Streams.{FailuresMatch};
+ghost use Rattle.sum_words.specs.{Tool.name_of, parsing.WordFault.result_value};
 
 use crate::messages::Message;
 use std::alloc::Allocator;
@@ -17,9 +16,9 @@ use sum_words::{Operands, Request, Tool, WordFault, Words, read_words};
 /// Runs a tool on its words, and returns the status: 0 if all is good, otherwise 1 (coreutils manual, "md5sum
 /// invocation").
 ///
-/// Returns `Stop::Memory` only if the source was refused memory, or bytes of a manifest were still to come. The first
-/// steps of the behavior then happened: those before an operand or, in checking, before a line of a manifest or its
-/// end. Returns `Stop::Write` only if an output failed. A prefix of the trace then happened.
+/// Returns `Stop::Memory` only if the source was refused memory to open a file, or bytes of a manifest were still to
+/// come. The first steps of the behavior then happened: those before an operand or, in checking, before a line of a
+/// manifest or its end. Returns `Stop::Write` only if an output failed. A prefix of the trace then happened.
 pub fn run<A: Allocator + Copy, S: Source, O: Sink, E: Sink>(
     alloc: A,
     tool: Tool,
@@ -29,9 +28,7 @@ pub fn run<A: Allocator + Copy, S: Source, O: Sink, E: Sink>(
     // The behavior that the words mean, in every world that agrees with what was read.
     ensures behavior { Performs (meaning tool words.now) status_of streams.old streams.new result }
 
-    // The cause of a stop: the count of refusals rises only as the request allows, and that of failures by one.
-    ensures refusals { RefusalsMatch (allowed_refusals (request tool words.now)) streams.old.inputs
-        streams.new.inputs result }
+    // A write fault comes with one more failure, of one output.
     ensures failures { FailuresMatch streams.old.outputs streams.new.outputs result }
 
     // The status is 0 only if everything that was opened was read to its end; nothing was read further.
@@ -50,8 +47,7 @@ fn run_request<A: Allocator + Copy, S: Source, O: Sink, E: Sink>(
     ensures behavior { Performs (request_behavior tool (result_value asked.entry))
         status_of streams.old
         streams.new result }
-    ensures cause { StopHasCause (allowed_refusals (result_value asked.entry)) streams.old
-        streams.new result }
+    ensures failures { FailuresMatch streams.old.outputs streams.new.outputs result }
     ensures reads { ReadsToEndIf (result ≡ Ok 0) streams.old.inputs streams.new.inputs }
 {
     match asked {
@@ -85,7 +81,7 @@ fn run_operand<A: Allocator + Copy, S: Source, O: Sink, E: Sink>(
     ensures behavior { Performs (λ w. operand_behavior job.now (name_of tool) w name.now)
         (λ good. good)
         streams.old streams.new result }
-    ensures cause { StopHasCause (job_refusals job.now) streams.old streams.new result }
+    ensures failures { FailuresMatch streams.old.outputs streams.new.outputs result }
     ensures reads { ReadsToEndIf (result ≡ Ok true) streams.old.inputs streams.new.inputs }
 {
     match job {
@@ -112,7 +108,7 @@ fn run_operands<A: Allocator + Copy, S: Source, O: Sink, E: Sink>(
     ensures behavior { Performs (λ w. operands_behavior (operand_behavior job.now (name_of tool)) w
         (names_or_dash operands.entry)) status_of
         streams.old streams.new result }
-    ensures cause { StopHasCause (job_refusals job.now) streams.old streams.new result }
+    ensures failures { FailuresMatch streams.old.outputs streams.new.outputs result }
     ensures reads { ReadsToEndIf (result ≡ Ok 0) streams.old.inputs streams.new.inputs }
 {
     let mut next = Some(first_name(&mut operands));

@@ -1,1 +1,2 @@
 mod WorkedExamples
+mod LineExamples

@@ -1,21 +1,38 @@
 -- Worked examples: the meaning of some command lines, computed. It has both texts, the names that are opened, and
 -- whether all is good.
-use Rattle.std.proofs.Common.{arith, ◌≡◌, ◌∙◌, ap, ℕ, ◌++◌, Bool, List, [], ◌∷◌, refl, codes, true, false, if◌then◌else◌, bytes_eq, Result, Ok, Err, IfOk, Some, sym, inl, inr}
+use Rattle.std.proofs.Common.{arith, ◌≡◌, ◌∙◌, ap, ℕ, ◌++◌, Bool, List, [], ◌∷◌, refl, codes, true, false}
+use Rattle.std.proofs.Common.{if◌then◌else◌, bytes_eq, Result, Ok, Err, IfOk, None, Some, sym, inl, inr}
 use Rattle.std.specs.{Fmt.digits, Path.rsplit_once, Prelude.⊤, Prelude.◌⊎◌}
 use Prim.Native.String.{String}
 use Rattle.blake2b_core.specs.Compression.{mix, round, work_vector, compress}
-use Rattle.sum_engine.{proofs.BehaviorLemmas.events_extend, specs.Behavior.World, specs.Behavior.answer_to, specs.Behavior.digest_or_fault, specs.Behavior.out_text, specs.Behavior.err_text}
-use Rattle.sum_engine.specs.{Behavior.asks, Execution.Agrees, Execution.PerformsSteps, Streams.StreamsState, ToolLines.name_fault_line, check.Report.out_by, check.Report.bad_line, check.Rules.rules_of, check.Rules.labels_of, check.Summary.end_text}
-use Rattle.sum_engine.specs.declared.check.judge.Verdict.{Verdict, TheVariants.Right, TheVariants.Wrong, TheVariants.Unread}
-use Rattle.sum_sources.specs.{sources.Source.AnswerValue, inputs.Input.Content, inputs.Input.limit, inputs.Input.empty_content, sources.WithStdin.answers_with, ManifestLines.raw_lines}
-use Rattle.sum_sources.specs.declared.fault.{Fault.Fault, Ending.TheVariants.Whole, Ending.TheVariants.Broken, Fault.TheVariants.NotFound, Fault.TheVariants.Other}
-use Rattle.digest_kinds.specs.{Bytes.ByteString, Kind.full_kind, declared.algo.Algo.Algo, declared.algo.Algo.TheVariants.Md5, declared.algo.Algos.Algos, declared.algo.Algos.TheVariants.One}
+use Rattle.sum_engine.{proofs.BehaviorLemmas.events_extend, specs.Behavior.World, specs.Behavior.single_step}
+use Rattle.sum_engine.{specs.Behavior.answer_to, specs.Behavior.digest_or_fault, specs.Behavior.out_text}
+use Rattle.sum_engine.{specs.Behavior.err_text}
+use Rattle.sum_engine.specs.{Behavior.names_in, Execution.Agrees, Execution.Performs, Execution.PerformsSteps}
+use Rattle.sum_engine.specs.{Streams.StreamsState, ToolLines.name_fault_line, check.Report.out_by}
+use Rattle.sum_engine.specs.{check.Report.bad_line, check.Rules.rules_of, check.Rules.labels_of, check.Summary.end_text}
+use Rattle.sum_engine.specs.declared.check.judge.Verdict.{Verdict, TheVariants.Right, TheVariants.Wrong}
+use Rattle.sum_engine.specs.declared.check.judge.Verdict.{TheVariants.Unread}
+use Rattle.sum_sources.specs.{sources.Source.AnswerValue, inputs.Input.Content, Content.limit}
+use Rattle.sum_sources.specs.{inputs.Input.empty_content, sources.WithStdin.answers_with}
+use Rattle.sum_sources.specs.LineReader.{raw_lines}
+use Rattle.sum_sources.specs.declared.fault.{Fault.Fault, Ending.TheVariants.Whole, Ending.TheVariants.Broken}
+use Rattle.sum_sources.specs.declared.fault.{Fault.TheVariants.NotFound, Fault.TheVariants.Other}
+use Rattle.digest_kinds.specs.{Bytes.ByteString, Kind.full_kind, declared.algo.Algo.Algo}
+use Rattle.digest_kinds.specs.{declared.algo.Algo.TheVariants.Md5, declared.algo.Algos.Algos}
+use Rattle.digest_kinds.specs.{declared.algo.Algos.TheVariants.One}
 use Rattle.hex.specs.Hex.{encode_with, decode_pairs}
-use Rattle.sum_lines.specs.{grammar.LineParts.plain_parts, grammar.LineParts.tagged_parts, grammar.ParsedLines.entry_of, writing.DigestLine.line}
-use Rattle.sum_words.specs.{declared.tool.Tool.Tool, declared.tool.Tool.TheVariants.Md5sum, declared.tool.Tool.TheVariants.B2sum, declared.tool.Tool.TheVariants.Anysum, messages.FaultLines.fault_lines, parsing.WordFault.unknown_long}
-use Rattle.digests.specs.{GenerationRuns.GenerationRun, Meaning.meaning, Meaning.status_of, Program.not_read_line, Program.CallPerforms, Program.CallRefuses}
+use Rattle.sum_lines.specs.{grammar.LineParts.plain_parts, grammar.LineParts.tagged_parts, grammar.ParsedLines.entry_of}
+use Rattle.sum_lines.specs.writing.PutLine.{digest_line}
+use Rattle.sum_words.specs.{declared.tool.Tool.Tool, declared.tool.Tool.TheVariants.Md5sum}
+use Rattle.sum_words.specs.{declared.tool.Tool.TheVariants.B2sum, declared.tool.Tool.TheVariants.Anysum}
+use Rattle.sum_words.specs.{messages.FaultLines.fault_lines, parsing.WordFault.unknown_long}
+use Rattle.digests.specs.{Program.not_read_line, Program.CallPerforms, Program.CallRefuses, Program.ReportsStop}
+use Rattle.digests.specs.Laws.{GenerationRun}
+use Rattle.digests.specs.ToolRun.{meaning, status_of}
 use Rattle.sum_words_tests.proofs.WorkedExamples.{words, words_on_literals}
-use Rattle.sum_settings.specs.declared.{settings.CheckSettings.CheckSettings, settings.Report.TheVariants.All, stop.Stop.Stop, style.Mode.Mode, style.Mode.TheVariants.Text}
+use Rattle.sum_settings.specs.declared.{settings.CheckSettings.CheckSettings, settings.Report.TheVariants.All}
+use Rattle.sum_settings.specs.declared.{stop.Stop.Stop, style.Mode.Mode, style.Mode.TheVariants.Text}
 use Rattle.md5.specs.Md5.{block_words as md5_words, rounds as md5_rounds, compress as md5_compress}
 use Rattle.md5.specs.Md5.{hash_after as md5_after, digest_bytes as md5_bytes, md5}
 use Rattle.blake2b_core.specs.Digest.{hash_after as blake2b_after, blake2b}
@@ -23,7 +40,8 @@ use Rattle.blake2b_core.specs.Digest.{hash_after as blake2b_after, blake2b}
 -- what a worked example unfolds, so that its texts are computed
 unfoldable meaning_on_literals : ⊤
 unfolding words_on_literals limit raw_lines entry_of plain_parts tagged_parts rsplit_once encode_with decode_pairs
-    digits md5_words md5_rounds md5_compress md5_after md5_bytes md5 mix round work_vector compress blake2b_after blake2b
+    digits md5_words md5_rounds md5_compress md5_after md5_bytes md5 mix round work_vector compress blake2b_after
+    blake2b
 meaning_on_literals = tt
 
 -- bytes that end whole
@@ -47,7 +65,7 @@ answer_with l name =
 abbrev outcome : Tool → List ByteString → Content → Content → ByteString × ByteString × List ByteString × Bool
 outcome tool words l input =
     let run = meaning tool words (record { answer = answers_with input (λ name k. answer_with l name); opened = [] }) in
-    (out_text run, err_text run, asks run, run.good)
+    (out_text run, err_text run, names_in run, run.good)
 
 -- the line of `a`
 abbrev a_line : ByteString
@@ -189,13 +207,24 @@ pub ran_to_end : {Needs : Type 0} {b : StreamsState} {status : ℕ} (a : Streams
     (Did : StreamsState → StreamsState → Result ℕ Stop → Type 0) → (Needs → (w : World) × Agrees w b.inputs)
     → CallPerforms (Some Md5sum) Did a b status ⊎ (Needs × CallRefuses not_read_line a b status) → status ≡ 0
     → (c : StreamsState) × Did a c (Ok 0) × (b.inputs ≡ c.inputs) × (b.outputs ≡ c.outputs)
-ran_to_end a Did known (inl (Ok x, c, did, failed, same, reports)) zero =
-    (c, rw (sym reports.0 ∙ zero) at did, same, reports.1)
-ran_to_end a Did known (inr (needs, (Ok x, c, did, failed, same, reports))) zero =
-    let (w, agrees) = known needs in
-    let one = (did w (rw same at agrees)).0 in absurd (omega (arith, one, reports.0))
-ran_to_end a Did known (inl (Err stop, c, did, failed, same, reports)) zero = let one = reports.0 in cc
-ran_to_end a Did known (inr (needs, (Err stop, c, did, failed, same, reports))) zero = let one = reports.0 in cc
+ran_to_end {b = b} {status = status} a Did known (inl did) zero =
+    by did.result did.between did.runs did.inputs did.end
+  where
+    by : (result : Result ℕ Stop) (c : StreamsState) → Did a c result → b.inputs ≡ c.inputs
+        → ReportsStop (Some Md5sum) result c.outputs b.outputs status
+        → (c : StreamsState) × Did a c (Ok 0) × (b.inputs ≡ c.inputs) × (b.outputs ≡ c.outputs)
+    by (Ok x) c did same reports = (c, rw (sym reports.0 ∙ zero) at did, same, reports.1)
+    by (Err stop) c did same reports = let one = reports.0 in cc
+ran_to_end {b = b} {status = status} a Did known (inr (needs, did)) zero =
+    by did.result did.between did.runs did.inputs did.end
+  where
+    by : (result : Result ℕ Stop) (c : StreamsState)
+        → Performs (λ world. single_step [] not_read_line [] false) status_of a c result → b.inputs ≡ c.inputs
+        → ReportsStop None result c.outputs b.outputs status
+        → (c : StreamsState) × Did a c (Ok 0) × (b.inputs ≡ c.inputs) × (b.outputs ≡ c.outputs)
+    by (Ok x) c did same reports = let (w, agrees) = known needs in
+        let one = (did w (rw same at agrees)).0 in absurd (omega (arith, one, reports.0))
+    by (Err stop) c did same reports = let one = reports.0 in cc
 
 -- `md5sum - -`, if the second `-` is empty: whatever the first is, the last line is that of an empty file
 pub dash_twice : (w : World) → w.opened ≡ [] → w.answer (codes "-") 1 ≡ Ok empty_content
@@ -207,7 +236,11 @@ dash_twice w none later = by (digest_or_fault (full_kind Md5) (w.answer (codes "
     by : (r : Result ByteString Fault) → digest_or_fault (full_kind Md5) (w.answer (codes "-") 0) ≡ r
         → (text : ByteString) × (out_text (meaning Md5sum (codes "-" ∷ codes "-" ∷ []) w)
         ≡ text ++ codes "d41d8cd98f00b204e9800998ecf8427e  -\n")
-    by (Ok d) is = (line (record { mode = Text; zero = false }) (full_kind Md5) (codes "-") d, rw (none, is, later) refl)
+    by (Ok d) is = (
+      digest_line (record { mode = Text; zero = false }) (full_kind Md5) (codes "-") d,
+      rw
+          (none, is, later) refl,
+    )
     by (Err f) is = ([], rw (none, is, later) refl)
 
 -- a run that writes the line of one name

@@ -1,15 +1,15 @@
 //! What the laws say of one tool and of one or two names. Each of these functions is there for its contract.
-ghost use Rattle.digests.specs.{GenerationRuns.HasFiles, GenerationRuns.IsListable, Meaning.meaning, Meaning.status_of};
-ghost use Rattle.std.specs.Prelude.{All, ◌≡◌, ◌≢◌, ◌<◌, ◌∷◌, ◌++◌, [], Ok, Err, IfOk, Some, codes, length};
+ghost use Rattle.digest_kinds.specs.Bytes.{LIMIT};
+ghost use Rattle.digests.specs.Laws.{HasFiles, IsListable};
+ghost use Rattle.digests.specs.ToolRun.{meaning, status_of};
+ghost use Rattle.std.specs.Prelude.{◌≡◌, ◌<◌, ◌+◌, ◌∷◌, ◌++◌, [], Ok, IfOk, Some, codes, length};
 ghost use Rattle.sum_sources.specs.declared.fault.Ending.TheVariants.{Whole};
-ghost use Rattle.sum_sources.specs.declared.inputs.input.Phase.TheVariants.{Ended as EndedBy};
-ghost use Rattle.sum_sources.specs.inputs.Input.{Reads, empty_content, limit};
+ghost use Rattle.sum_sources.specs.inputs.Input.{empty_content};
 ghost use Rattle.sum_sources.specs.sources.Source.{AnswerValue as AnswerValue, Answers, TellsAll};
 ghost use Rattle.sum_engine.specs.Behavior.{World, answer_to, out_text, err_text};
-ghost use Rattle.sum_engine.specs.{Streams.failures, check.Report.out_by};
+ghost use Rattle.sum_engine.specs.{Streams.failures_of, check.Report.out_by};
 ghost use Rattle.sum_engine.specs.declared.check.judge.Verdict.TheVariants.{Right};
 ghost use Rattle.sum_settings.specs.declared.settings.Report.TheVariants.{All as AllReports};
-ghost use Rattle.sum_settings.specs.declared.stop.Stop.TheVariants.{Memory};
 ghost use Rattle.sum_words.specs.Arguments.{FitsArguments};
 ghost use Rattle.sum_words.specs.declared.tool.Tool.TheVariants.{Md5sum, Sha256sum, Anysum};
 ghost use Rattle.digest_kinds.specs.Bytes.{ByteString};
@@ -44,18 +44,6 @@ pub fn run_on_e<A: Allocator + Copy, S: Source, O: Sink, E: Sink>(
     let outcome = run(alloc, Tool::Md5sum, words, streams);
     told_performs(streams);
     outcome
-}
-
-/// `md5sum --version`. There is always memory for it.
-pub fn version<A: Allocator + Copy, S: Source, O: Sink, E: Sink>(
-    alloc: A,
-    words: &Words<A>,
-    streams: &mut Streams<S, O, E>,
-) -> Result<u8, Stop>
-    requires { words.now ≡ codes "--version" ∷ [] }
-    ensures { result ≢ Err Memory }
-{
-    run(alloc, Tool::Md5sum, words, streams)
 }
 
 /// `md5sum` without words, if standard input is empty: if the status is 0, standard output got its line.
@@ -117,7 +105,7 @@ where
         (codes "md5sum" ∷ codes "-" ∷ codes "-" ∷ []) → result.status ≡ 0 → (text : ByteString)
         × (result.streams.outputs.out.written ≡ text
         ++ codes "d41d8cd98f00b204e9800998ecf8427e  -\n") }
-    ensures no_failures { result.status ≡ 0 → failures result.streams.outputs ≡ (0, 0) }
+    ensures no_failures { result.status ≡ 0 → failures_of result.streams.outputs ≡ (0, 0) }
 {
     program(alloc, env, files, stdin, out, err)
 }
@@ -159,30 +147,6 @@ where
     }
 }
 
-/// The program. If the status is 0, standard output took all that it was offered, and each file that could be opened
-/// was read whole.
-pub fn reads_whole<A, R, F, I, O, E>(
-    alloc: A,
-    env: R,
-    files: F,
-    stdin: I,
-    out: O,
-    err: E,
-) -> Finished<SystemArguments<R>, SystemStreams<F, I, O, E>>
-where
-    A: Allocator + Copy,
-    R: rt::Env,
-    F: rt::Files + Drop,
-    I: Read + AsFd + Drop,
-    O: Write,
-    E: Write,
-    ensures out { result.status ≡ 0 → result.streams.outputs.out.failures ≡ 0 }
-    ensures files { result.status ≡ 0 → All (λ o. (r : Reads) → o.gave ≡ Some (Ok r)
-        → r.phase ≡ EndedBy Whole) result.streams.inputs.openings }
-{
-    program(alloc, env, files, stdin, out, err)
-}
-
 /// The same as `command_on_e` with all in memory: what standard output holds.
 pub fn e_in_memory(alloc: Global) -> Result<(u8, ToldSink<64>), NoRoom>
     ensures { IfOk result (λ r. r.0 ≡ 0 →
@@ -206,7 +170,7 @@ pub fn one_name_is_good()
     ensures { (files later : ByteString → AnswerValue) (w v : World) → HasFiles w files →
         HasFiles v later → IsListable files (codes "a") → later (codes "a") ≡ files (codes "a") →
         let sums = out_text (meaning Md5sum (codes "a" ∷ []) w) in
-        length sums < limit →
+        length sums < LIMIT →
         answer_to v (codes "SUMS") ≡ Ok (record { bytes = sums; ending = Whole }) →
         let run = meaning Md5sum (codes "--check" ∷ codes "--" ∷ codes "SUMS" ∷ []) v in
         (status_of run.good ≡ 0) × (out_text run ≡ out_by AllReports Right (codes "a")) × (err_text run ≡ []) }
@@ -221,7 +185,7 @@ pub fn two_tools_are_good()
         IsListable files (codes "b") → later (codes "b") ≡ files (codes "b") →
         let sums = out_text (meaning Md5sum (codes "--tag" ∷ codes "a" ∷ []) w)
         ++ out_text (meaning Sha256sum (codes "--tag" ∷ codes "b" ∷ []) w) in
-        length sums < limit →
+        length sums < LIMIT →
         answer_to v (codes "SUMS") ≡ Ok (record { bytes = sums; ending = Whole }) →
         let run = meaning Anysum (codes "--check" ∷ codes "--" ∷ codes "SUMS" ∷ []) v in
         (status_of run.good ≡ 0)

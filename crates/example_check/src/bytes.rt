@@ -34,7 +34,7 @@ impl<R: Read> Input for Bytes<R> {
             Ok(count) => Ok(count),
             Err(_) => Err(Fault::Other),
         };
-        self.log = self.log.and(&ReadNote(buf, &read));
+        self.log = self.log.with_note(&ReadNote(buf, &read));
         read
     }
 

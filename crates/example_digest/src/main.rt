@@ -1,7 +1,7 @@
 //! Says whether a message has a digest that is known in digits.
 #![tactic(auto)]
 
-ghost use Rattle.digest_kinds.specs.{Bytes.LIMIT, Digest.IsDigits, Kind.digest};
+ghost use Rattle.digest_kinds.specs.{Bytes.LIMIT, Digest.IsDigits, Kind.message_digest};
 ghost use Rattle.hex.specs.Hex.{decode_of};
 ghost use Rattle.std.specs.Prelude.{◌≡◌, ◌<◌, ◌↔◌, IsTrue, Ok, length};
 
@@ -12,7 +12,7 @@ use std::io;
 fn has_digest(kind: Kind, message: &[u8], digits: &[u8]) -> bool
     requires { length message.now < LIMIT }
     ensures { IsTrue result ↔ (IsDigits digits.now
-        × (decode_of digits.now ≡ Ok (digest kind message.now))) }
+        × (decode_of digits.now ≡ Ok (message_digest kind message.now))) }
 {
     match Digest::from_hex(digits) {
         Some(known) => known.same(&kind.digest(message)),

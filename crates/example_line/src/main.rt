@@ -1,10 +1,9 @@
 //! Writes the line of a name to an output in memory, and reads the name back.
 #![tactic(auto)]
 
-ghost use Rattle.digest_kinds.specs.{Bytes.LIMIT, Kind.digest};
+ghost use Rattle.digest_kinds.specs.{Bytes.LIMIT, Kind.message_digest};
 ghost use Rattle.std.specs.Prelude.{◌<◌, false, length};
-ghost use Rattle.sum_lines.specs.{sinks.Output.GivesAll, writing.DigestLine.line};
-ghost use Rattle.sum_settings.specs.declared.style.Mode.TheVariants.{Text};
+ghost use Rattle.sum_lines.specs.{sinks.Output.GivesAll, writing.PutLine.digest_line};
 
 use digest_kinds::{Algo, Algos, AnyHasher, Hasher, Kind};
 use sum_lines::{
@@ -20,7 +19,7 @@ fn write_line<S: Sink>(
 ) -> Result<(), SinkFault>
     requires { length content.now < LIMIT }
     ensures { GivesAll out.old out.new
-        (line (record { mode = Text; zero = false }) kind name.now (digest kind content.now))
+        (digest_line (record { mode = Mode.Text; zero = false }) kind name.now (message_digest kind content.now))
         result }
 {
     let mut hasher = AnyHasher::new(kind);

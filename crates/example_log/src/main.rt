@@ -50,7 +50,7 @@ impl Meter {
         requires { sum self.old.log + amount < 2 ^ 32 }
         ensures { self.new.log ≡ self.old.log ++ amount ∷ [] }
     {
-        self.log = self.log.and(&Fed(amount));
+        self.log = self.log.with_note(&Fed(amount));
         self.total += amount;
     }
 }

@@ -1,7 +1,7 @@
 //! Runs `md5sum --tag` over two files in memory.
 #![tactic(auto)]
 
-ghost use Rattle.digests.specs.Meaning.{meaning, status_of};
+ghost use Rattle.digests.specs.ToolRun.{meaning, status_of};
 ghost use Rattle.sum_engine.specs.Execution.{PerformsSteps, opened_names};
 ghost use Rattle.sum_sources.specs.sources.Source.{Answers, TellsAll};
 

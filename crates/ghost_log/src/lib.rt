@@ -1,11 +1,12 @@
-//! Logs that only proofs see. They take no room, and their calls do nothing.
+//! Logs that only proofs see. They take no room, and their calls do nothing. What is logged belongs elsewhere: to the
+//! crate of the calls that a log is of.
 //!
 //! Clauses see a log as a value of its type parameter, its state. No code can read it, so what a contract says of it
 //! matters to a caller only if a clause of a trait depends on it.
 //!
 //! ```rust
 //! let log: Log<SinkCalls> = Log::of(&SinkCalls);
-//! let log = log.and(&SinkFault);
+//! let log = log.with_note(&SinkFault);
 //! ```
 #![tactic(auto)]
 
@@ -20,7 +21,7 @@ pub trait Notes<X> {
     ghost after_note: { Self → X → Self };
 }
 
-/// A log. Clauses see its state.
+/// A log: proofs see a value of `T`, its state; a program sees nothing, and it takes no memory.
 #[derive(Drop)]
 pub struct Log<T> {
     of: PhantomData<T>,
@@ -42,26 +43,28 @@ impl<T> Debug for Log<T> {
 }
 
 // The state of a log, made of a value.
-trait Says<X, T> {
-    ghost says: { X → T };
+trait StateOf<X, T> {
+    ghost state_of: { X → T };
 }
 
-struct It;
+// What says that the state is the value itself.
+struct Itself;
 
-impl<T> Says<T, T> for It {
-    ghost says = { λ x. x };
+impl<T> StateOf<T, T> for Itself {
+    ghost state_of = { λ x. x };
 }
 
-struct AndNote;
+// What says that the state is a log's after one more note.
+struct WithNote;
 
-impl<'a, X, T: Notes<X>> Says<(&'a Log<T>, &'a X), T> for AndNote {
-    ghost says = { λ x. T.after_note x.0.now x.1.now };
+impl<'a, X, T: Notes<X>> StateOf<(&'a Log<T>, &'a X), T> for WithNote {
+    ghost state_of = { λ x. T.after_note x.0.now x.1.now };
 }
 
 impl<T> Log<T> {
     // A log with the state that `M` makes of `x`.
-    fn made<X, M: Says<X, T>>(x: &X) -> Log<T>
-        ensures { result ≡ M.says x.now }
+    fn made<X, M: StateOf<X, T>>(x: &X) -> Log<T>
+        ensures { result ≡ M.state_of x.now }
     {
         Log { of: PhantomData }
     }
@@ -70,15 +73,15 @@ impl<T> Log<T> {
     pub fn of(first: &T) -> Log<T>
         ensures { result ≡ first.now }
     {
-        Log::made::<_, It>(first)
+        Log::made::<_, Itself>(first)
     }
 
     /// Returns this log after one more note.
-    pub fn and<X>(&self, note: &X) -> Log<T>
+    pub fn with_note<X>(&self, note: &X) -> Log<T>
     where
         T: Notes<X>,
         ensures { result ≡ T.after_note self.now note.now }
     {
-        Log::made::<_, AndNote>(&(self, note))
+        Log::made::<_, WithNote>(&(self, note))
     }
 }

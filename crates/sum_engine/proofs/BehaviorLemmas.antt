@@ -1,11 +1,15 @@
 -- Runs, one after another, and what a run's steps come to.
-use Rattle.std.proofs.Common.{rules, ◌≡◌, ℕ, Bool, List, [], ◌∷◌, ◌++◌, Result, Ok, Err, refl, ap, sym, ◌∙◌, subst, append_assoc, append-nil, flat_map, filter_map, inl}
-use Rattle.std.proofs.lemmas.{Grind.flat_map-append, List.Elements.filter_map-append}
+use Rattle.std.proofs.Common.{rules, ◌≡◌, ℕ, Bool, List, [], ◌∷◌, ◌++◌, Result, Ok, Err, refl, subst, append_assoc}
+use Rattle.std.proofs.Common.{append-nil, flat_map, filter_map, inl}
+use Rattle.std.{proofs.lemmas.Grind.flat_map-append, proofs.lemmas.List.Elements.filter_map-append, specs.Prelude.◌≢◌}
 use Rattle.sum_lines.{proofs.EventLemmas.output_events-bytes, specs.sinks.Output.written_byte}
 use Rattle.sum_settings.specs.declared.stop.Stop.{Stop, TheVariants.Memory, TheVariants.Write}
-use Rattle.sum_engine.specs.Execution.{opened_name, err_event, out_event, AsksNames, Agrees, world_at, Happened, streams_with_refusals, PerformsSteps, Performs, RefusesMemory}
-use Rattle.sum_engine.specs.{Laws.EventsExtend, check.Checker.behavior_from, Streams.StreamsState, Streams.WritesAndReturns, Behavior.World, Behavior.Step, Behavior.Behavior, Behavior.trace, Behavior.events_of, Behavior.single_step}
-use Rattle.sum_engine.proofs.ExecutionLemmas.{step_performed, filter_map-kind, filter_map-other_kind, Happened-then, refused_first}
+use Rattle.sum_engine.specs.Execution.{opened_name, err_event, out_event, OpensNames, Agrees, world_at, Happened}
+use Rattle.sum_engine.specs.Execution.{streams_with_refusals, PerformsSteps, Performs, RefusesMemory}
+use Rattle.sum_engine.specs.{Laws.EventsExtend, Streams.StreamsState, Streams.WritesAndReturns, Behavior.World}
+use Rattle.sum_engine.specs.{Behavior.Step, Behavior.Behavior, Behavior.trace, Behavior.events_of, Behavior.single_step}
+use Rattle.sum_engine.proofs.ExecutionLemmas.{step_performed, filter_map-kind, filter_map-other_kind, Happened-then}
+use Rattle.sum_engine.proofs.ExecutionLemmas.{refused_first}
 
 -- ---- a behavior after a step, and one behavior after another
 
@@ -39,37 +43,11 @@ pub behind_step : {A : Type 0} {a b : StreamsState} (c : StreamsState) (x : A) (
 behind_step c x s r (Ok good) h k = (k.0, Happened-then (events_of s) (trace r) h k.1)
 behind_step c x s r (Err stop) h k = behavior_then-second c x x (s ∷ []) r stop (rw (append-nil (events_of s)) h) k
 
--- ---- along a run
-
--- all of the whole behavior has happened, except what is left
-pub record HasDoneUpTo (whole left : Behavior) (a b : StreamsState) : Type 0 where
-  pub done : List Step
-  pub steps : whole.steps ≡ done ++ left.steps
-  pub good : left.good ≡ whole.good
-  pub happened : Happened a b (trace done)
-
--- one more step happened
-pub done_more : {a b c : StreamsState} {whole left : Behavior} (step : Step) (later : Behavior)
-    → HasDoneUpTo whole left a b → left ≡ behavior_from step later → Happened b c (trace (step ∷ []))
-    → HasDoneUpTo whole later a c
-done_more step later h is k =
-    let did = behavior_then-happened h.done (step ∷ []) h.happened k in search (rules, append_assoc, did)
-
--- the next step stopped, so the whole behavior stopped
-pub done_stops : {A B : Type 0} {a b : StreamsState} {whole left : Behavior} (c : StreamsState) (x : A) (y : B)
-    (step : Step) (later : Behavior) (stop : Stop) → HasDoneUpTo whole left a b → left ≡ behavior_from step later
-    → PerformsSteps (step ∷ []) y b c (Err stop) → PerformsSteps whole.steps x a c (Err stop)
-done_stops {a = a} {b = b} c x y step later stop h is k =
-    let all = h.steps ∙ ap (λ (r : Behavior). h.done ++ r.steps) is in
-    subst (λ steps. PerformsSteps steps x a c (Err stop)) (sym all)
-    (behavior_then-second c x y h.done (step ∷ later.steps) stop h.happened
-    (behavior_then-first b c y y (step ∷ []) later.steps stop k))
-
 -- ---- a run of one step
 
 -- the one step of a behavior was done, or a prefix of it, so the behavior was performed
 pub Performs-step : {A : Type 0} (run : World → Behavior) (outcome : Bool → A) (good : Bool) (a b : StreamsState)
-    {names : List (List ℕ)} {err out : List ℕ} {x : Result A Stop} → AsksNames a.inputs b.inputs names
+    {names : List (List ℕ)} {err out : List ℕ} {x : Result A Stop} → OpensNames a.inputs b.inputs names
     → ((w : World) → Agrees w b.inputs → run (world_at w a.inputs) ≡ single_step names err out good)
     → WritesAndReturns a.outputs b.outputs err out (outcome good) x → Performs run outcome a b x
 Performs-step run outcome good a b {x = x} asked is said = λ w agrees.
@@ -77,11 +55,11 @@ Performs-step run outcome good a b {x = x} asked is said = λ w agrees.
 
 -- the source had no memory to open the first step's name
 pub Performs-refused : {A : Type 0} (run : World → Behavior) (outcome : Bool → A) (a b : StreamsState)
-    → ((w : World) → (s : Step) × (rest : List Step) × ((run w).steps ≡ s ∷ rest))
+    → ((w : World) → (s : Step) × (rest : List Step) × ((run w).steps ≡ s ∷ rest) × (s.names ≢ []))
     → RefusesMemory a.inputs b.inputs → b.outputs ≡ a.outputs → Performs run outcome a b (Err Memory)
 Performs-refused run outcome a b first refused outputs = λ w agrees.
     let next = first (world_at w a.inputs) in
-    refused_first next.0 next.1 next.2 outputs (inl refused)
+    refused_first next.0 next.1 next.2 outputs (inl (refused, next.3))
 
 -- ---- what a run's events come to
 

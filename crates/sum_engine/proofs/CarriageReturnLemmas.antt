@@ -1,7 +1,8 @@
 -- Lines without a carriage return are kept as they are.
 use Rattle.std.proofs.Common.{rules, ◌≡◌, ◌≢◌, ℕ, List, [], ◌∷◌, map, refl, All}
-use Rattle.std.{proofs.lemmas.List.Elements.All-head, proofs.lemmas.List.Elements.All-tail, specs.Str.Lines.strip_carriage_return}
-use Rattle.sum_engine.specs.OldVerdicts.{HasNoCarriageReturn}
+use Rattle.std.{proofs.lemmas.List.Elements.All-head, proofs.lemmas.List.Elements.All-tail}
+use Rattle.std.{specs.Str.Lines.strip_carriage_return}
+use Rattle.sum_engine.specs.Laws.{HasNoCarriageReturn}
 
 -- the byte is no carriage return
 abbrev pub IsNoCarriageReturn : ℕ → Type 0

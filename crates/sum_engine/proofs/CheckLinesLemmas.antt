@@ -1,16 +1,32 @@
--- `check_lines`: a new checker runs to its end. What happened so far and what remains is the whole behavior
--- (`HasComeTo`). A step that goes on keeps this. The step that ends or stops proves the contract by it.
-use Rattle.std.proofs.Common.{rules, ◌-◌, ◌+◌, ◌≤◌, ◌≡◌, ℕ, length, drop, length-drop, Bool, List, [], ◌∷◌, ◌++◌, Result, Ok, Err, None, true, refl, ap, ◌∙◌, subst, arith, append-nil}
-use Rattle.std.specs.Prelude.{IfErr}
-use Rattle.sum_sources.specs.{LineReader.remaining_content, declared.inputs.input.Phase.TheVariants.Unfinished}
-use Rattle.sum_sources.specs.inputs.Input.{IsSameInput, Fits, reads_past, Reads, Content, InputState, clip}
-use Rattle.sum_engine.specs.check.Checker.{remaining_behavior, Progress, Going, Ended, IsStep, TakesStep, behavior_from, progress_before, CheckerValue, end_result}
-use Rattle.sum_engine.specs.check.{Verdicts.CheckState, Verdicts.initial_state, Verdicts.IsAtStart, Verdicts.VerdictsValue, Verdicts.state_at, Verdicts.HoldsInEachCheck, Summary.end_text, Rules.LabelsValue, Rules.CheckRules}
-use Rattle.sum_engine.specs.{Streams.StreamsState, Streams.StopHasCause, Streams.none_or_one, Execution.Agrees, Execution.ReadsToEndIf, Execution.world_at, Execution.PerformsSteps, private.CheckOne.RunsManifest}
-use Rattle.sum_engine.proofs.{WorldLemmas.agrees_before, WorldLemmas.reads_none, WorldLemmas.reads_then, CountLemmas.counts_then-none, ReadAheadLemmas.read_fits_clip, ReadAheadLemmas.stops_at_step, ExecutionLemmas.Happened-none}
-use Rattle.sum_engine.{proofs.BehaviorLemmas.HasDoneUpTo, proofs.BehaviorLemmas.done_more, proofs.BehaviorLemmas.done_stops, specs.check.Counts.Counts}
-use Rattle.sum_engine.specs.{check.Counts.counts_of, check.Counts.good, check.CheckOne.content_behavior, check.CheckOne.StopsAtStep, check.CheckOne.line_steps, check.Judge.all_verdicts, Behavior.World, Behavior.Step, Behavior.Behavior}
-use Rattle.sum_settings.specs.declared.stop.Stop.{Stop}
+-- `run_to_end`: a new checker runs to its end. The last step ends or stops the run (`runs_last`), each step before it
+-- comes before what the later steps do (`runs_more`), and from the first line on they do what the contract says.
+use Rattle.digest_kinds.specs.Bytes.{LIMIT}
+use Rattle.sum_sources.specs.declared.inputs.input.TheConstants.{PIECE}
+use Rattle.std.proofs.Common.{rules, ◌-◌, ◌+◌, ◌≤◌, ◌≡◌, ℕ, length, drop, append-nil, length-append, length-drop}
+use Rattle.std.proofs.Common.{length-take, Bool, List, [], ◌∷◌, Result, Ok, Err, None, Some, true, refl, ap, sym, ◌∙◌}
+use Rattle.std.proofs.Common.{subst, arith}
+use Rattle.sum_sources.{proofs.ContentLemmas.limit-value, proofs.ReadOnLemmas.ReadsOn-then}
+use Rattle.sum_sources.{specs.LineReader.remaining_content, specs.declared.line_reader.Next.TheVariants.NoMore}
+use Rattle.sum_sources.{specs.declared.inputs.input.Phase.Phase, specs.declared.inputs.input.Phase.TheVariants.Past}
+use Rattle.sum_sources.specs.inputs.Input.{IsReadTo, IsSameInput, Fits, reads_past, Reads, Content, InputState, clip}
+use Rattle.sum_engine.specs.check.Checker.{remaining_behavior, Going, Ended, IsStep, TakesStep, behavior_from}
+use Rattle.sum_engine.specs.check.Checker.{progress_before, CheckerValue, end_result}
+use Rattle.sum_engine.specs.check.{Verdicts.CheckState, Verdicts.initial_state, Verdicts.IsAtStart}
+use Rattle.sum_engine.specs.check.{Verdicts.VerdictsValue, Verdicts.state_at, Verdicts.HoldsInEachCheck}
+use Rattle.sum_engine.specs.check.{Summary.end_text, Rules.LabelsValue, Rules.CheckRules}
+use Rattle.sum_engine.specs.{Streams.StreamsState, Streams.FailuresMatch, Execution.Happened, Execution.ReadsToEndIf}
+use Rattle.sum_engine.specs.{Execution.world_at, Execution.PerformsSteps, private.CheckOne.RunsManifest}
+use Rattle.sum_engine.specs.{private.CheckOne.RunsTo}
+use Rattle.sum_engine.proofs.{BehaviorLemmas.behavior_then-first, BehaviorLemmas.behavior_then-second}
+use Rattle.sum_engine.proofs.{CountLemmas.counts_then-none, ExecutionLemmas.Happened-none}
+use Rattle.sum_engine.proofs.{ExecutionLemmas.Happened-then, RemainingLemmas.remaining_before-left}
+use Rattle.sum_engine.proofs.{StepLemmas.InEachCheck-map, WorldLemmas.agrees_before, WorldLemmas.reads_then}
+use Rattle.sum_engine.proofs.{WorldLemmas.reads_weaker}
+use Rattle.sum_engine.specs.{check.Counts.Counts, check.Counts.counts_of, check.Counts.is_manifest_good}
+use Rattle.sum_engine.specs.{check.CheckOne.content_behavior, check.CheckOne.line_steps}
+use Rattle.sum_engine.specs.{check.CheckOne.remaining_before, check.Judge.all_verdicts, Behavior.World}
+use Rattle.sum_engine.specs.{Behavior.Step, Behavior.Behavior, Behavior.events_of, Behavior.trace}
+use Rattle.sum_settings.specs.declared.stop.Stop.{Stop, TheVariants.Memory, TheVariants.Write}
 
 -- ---- before the first step
 
@@ -20,176 +36,212 @@ pub remaining-initial : (r : CheckRules) (labels : LabelsValue) (c : Content) (w
 remaining-initial r labels c w =
     let js = all_verdicts r w c in
     let by : Counts → Behavior =
-    λ n. record { steps = line_steps r labels (end_text r labels c.ending n) c js; good = good r c.ending n } in
+    λ counts. let steps = line_steps r labels (end_text r labels c.ending counts) c js in
+    record { steps = steps; good = is_manifest_good r c.ending counts } in
     ap by (counts_then-none (counts_of js))
 
 -- at the first line the state is the initial one
-state-initial : {I : Type 0} {state : I → InputState} {p : VerdictsValue I} {input : I} → IsAtStart state p input
+pub state-initial : {I : Type 0} {state : I → InputState} {p : VerdictsValue I} {input : I} → IsAtStart state p input
     → (c : Content) (w : World) → state_at p (remaining_content p.reader c) w ≡ initial_state (clip c) w
 state-initial start c w = rw (start.reader, start.form, start.counts) refl
 
--- ---- the step that ends or stops
+-- ---- what a run does of a behavior
 
--- a step returns whether all is good only if no step remains
-pub none_left : (steps : List Step) (all good : Bool) → Ended good ≡ progress_before steps all
-    → (steps ≡ []) × (good ≡ all)
-none_left steps all good h = grind arith
+-- a step happened, and then the rest of the run
+pub runs_behind : {a middle : StreamsState} (b : StreamsState) (s : Step) (later : Behavior) (c : Content) (k : ℕ)
+    (x : Result Bool Stop) → Happened a middle (events_of s) → RunsTo later c k middle b x
+    → RunsTo (behavior_from s later) c k a b x
+runs_behind b s later c k (Ok good) h ran = (ran.0, Happened-then (events_of s) (trace later.steps) h ran.1)
+runs_behind b s later c k (Err stop) h ran = record {
+  done = s ∷ ran.done;
+  next = ran.next;
+  later = ran.later;
+  are = ap (λ steps. s ∷ steps) ran.are;
+  between = ran.between;
+  happened = Happened-then (events_of s) (trace ran.done) h ran.happened;
+  stopped = ran.stopped;
+  read = ran.read;
+}
 
--- if the last step was performed after all steps before it, the whole behavior was
-pub done_last : {whole left : Behavior} {a b : StreamsState} (c : StreamsState) (step : Step) (later : Behavior)
-    (x : Result Bool Stop) → HasDoneUpTo whole left a b → left ≡ behavior_from step later
-    → PerformsSteps (step ∷ []) (progress_before later.steps later.good) b c (end_result x)
-    → PerformsSteps whole.steps whole.good a c x
-done_last c step later (Ok good) h is k =
-    let last = none_left later.steps later.good good k.0 in
-    let all = done_more step later h is k.1 in
-    let steps = all.steps ∙ ap (λ steps. all.done ++ steps) last.0 ∙ append-nil all.done in
-    (last.1 ∙ all.good, rw steps all.happened)
-done_last {whole} c step later (Err stop) h is k =
-    done_stops c whole.good (progress_before later.steps later.good) step later stop h is k
+-- a run that stopped at one of the steps performed the steps before it, and a prefix of that one
+pub runs_performs : (all : Behavior) (c : Content) (k : ℕ) (a b : StreamsState) (x : Result Bool Stop)
+    → RunsTo all c k a b x → PerformsSteps all.steps all.good a b x
+runs_performs all c k a b (Ok good) ran = ran
+runs_performs all c k a b (Err stop) ran =
+    subst (λ steps. PerformsSteps steps all.good a b (Err stop)) (sym ran.are)
+    (behavior_then-second b all.good (tt {0}) ran.done (ran.next ∷ ran.later) stop ran.happened
+    (behavior_then-first ran.between b (tt {0}) (tt {0}) (ran.next ∷ []) ran.later stop ran.stopped))
 
--- the cause of a stop of a step that ends or stops, after steps that went on
-cause_ends : {a b c : StreamsState} (x : Result Bool Stop) → StopHasCause {A = Bool} none_or_one a b (Ok true)
-    → StopHasCause none_or_one b c (end_result x) → StopHasCause none_or_one a c x
-cause_ends x h k = grind arith
+-- a step that returned whether all is good was the last
+pub last_step : {r : CheckRules} {labels : LabelsValue} {vector : List ℕ} {a d : CheckState}
+    {before after : StreamsState} {good : Bool} (step : IsStep r labels vector a d before after (Ok (Ended good)))
+    → (step.later.steps ≡ []) × (good ≡ step.later.good)
+last_step {good = good} step = none_left step.later.steps step.later.good step.performs.0
+  where
+    none_left : (steps : List Step) (all : Bool) → Ended good ≡ progress_before steps all → (steps ≡ []) × (good ≡ all)
+    none_left steps all h = grind arith
 
--- ---- from the first step on
+-- the last step performed all that remained, or stopped
+pub last_performs : {r : CheckRules} {labels : LabelsValue} {vector : List ℕ} {a d : CheckState}
+    {before after : StreamsState} (x : Result Bool Stop) → IsStep r labels vector a d before after (end_result x)
+    → PerformsSteps (remaining_behavior r labels a).steps (remaining_behavior r labels a).good before after x
+last_performs {before = before} {after = after} (Ok is_manifest_good) step =
+    let last = last_step step in
+    subst (λ (q : Behavior). PerformsSteps q.steps q.good before after (Ok is_manifest_good)) (sym step.is)
+    (last.1, rw last.0 step.performs.1)
+last_performs {before = before} {after = after} (Err stop) step =
+    let later = step.later in
+    subst (λ (q : Behavior). PerformsSteps q.steps q.good before after (Err stop)) (sym step.is)
+    (behavior_then-first before after later.good (progress_before later.steps later.good) (step.step ∷ []) later.steps
+    stop step.performs)
 
--- the behavior of a manifest
-abbrev pub manifest_behavior : CheckRules → LabelsValue → Content → World → Behavior
-manifest_behavior r labels c w = content_behavior r labels c (all_verdicts r w c)
+-- reads that didn't go past an end gave, up to the limit, not many more bytes than the content has below the limit
+read_fits_clip : (phase : Phase) (bytes : List ℕ) (c : Content) → ¬ (phase ≡ Past) → IsReadTo phase bytes c
+    → length bytes ≤ LIMIT → length bytes ≤ length (clip c).bytes + PIECE
+read_fits_clip phase bytes c past of few = grind (arith, limit-value, length-take, length-append)
 
--- from the checker `first` and the streams m on
-module _ {I : Type 0} (state : I → InputState) (first : CheckerValue I) (m : StreamsState) where
-  -- what remains at a state, by the rules and labels of the first
-  abbrev left : CheckState → Behavior
-  left a = remaining_behavior first.verdicts.rules first.labels a
+-- the last step was a run of its own, of a content whose bytes are those consumed and those that remained
+last_runs : {r : CheckRules} {labels : LabelsValue} {vector : List ℕ} {before : StreamsState} (after : StreamsState)
+    (c : Content) (a d : CheckState) (x : Result Bool Stop) → IsStep r labels vector a d before after (end_result x)
+    → a.consumed + length a.remaining.bytes ≡ length c.bytes → d.taken ≤ length c.bytes + PIECE
+    → RunsTo (remaining_behavior r labels a) c d.taken before after x
+last_runs after c a d (Ok good) step sum fits = last_performs (Ok good) step
+last_runs {r} {labels} {vector} {before} after c a d (Err stop) step sum fits = record {
+  done = [];
+  next = step.step;
+  later = step.later.steps;
+  are = ap (λ (q : Behavior). q.steps) step.is;
+  between = before;
+  happened = Happened-none before;
+  stopped = behavior_then-first before after (tt {0}) (progress_before step.later.steps step.later.good)
+      (step.step ∷ []) [] stop step.performs;
+  read = by stop step;
+}
+  where
+    -- by the reason of the stop
+    by : (stop : Stop) (s : IsStep r labels vector a d before after (Err stop))
+        → d.taken + remaining_before s.later.steps ≤ length c.bytes + PIECE
+    by Memory s = omega (arith, s.refused refl, sum)
+    by Write s = grind (arith, s.failed refl, remaining_before-left r labels d)
 
-  -- P holds between the state there and the state at another place and streams
-  abbrev HoldsUpTo : VerdictsValue I → StreamsState → (CheckState → CheckState → Type 0) → Type 0
-  HoldsUpTo q n P = HoldsInEachCheck state first.verdicts q m.inputs n.inputs P
+-- ---- from a checker on
 
-  -- the check came from the state a to b: what is done and what is left is all, and so is what is consumed and what
-  -- remains of the content
-  pub record ComesTo (a b : CheckState) (n : StreamsState) : Type 0 where
-    pub done : HasDoneUpTo (left a) (left b) m n
-    pub consumed : b.consumed + length b.remaining.bytes ≡ a.consumed + length a.remaining.bytes
+-- from the checker q and the streams `before`, the check ran to its end, with the result x
+pub record Runs {I : Type 0} (state : I → InputState) (q last : CheckerValue I) (before after : StreamsState)
+    (x : Result Bool Stop) : Type 0 where
+  pub runs : HoldsInEachCheck state q.verdicts last.verdicts before.inputs after.inputs (λ a d. (c : Content)
+      → a.consumed + length a.remaining.bytes ≡ length c.bytes → d.taken ≤ length c.bytes + PIECE
+      → RunsTo (remaining_behavior q.verdicts.rules q.labels a) c d.taken before after x)
+  pub good : x ≡ Ok true → (last.verdicts.reader.final_answer ≡ Some (Ok NoMore)) × (q.verdicts.counts.unread ≡ 0)
+  pub few : last.verdicts.reader.taken ≤ LIMIT
+  pub same : IsSameInput (state q.verdicts.reader.input) (state last.verdicts.reader.input)
+  pub taken : last.verdicts.reader.taken + length (state q.verdicts.reader.input).reads.bytes
+      ≡ q.verdicts.reader.taken + length (state last.verdicts.reader.input).reads.bytes
+  pub failures : FailuresMatch before.outputs after.outputs x
+  pub reads : ReadsToEndIf (x ≡ Ok true) before.inputs after.inputs
 
-  -- the check came so far, to this checker and these streams, by the same rules and labels
-  pub record HasComeTo (q : CheckerValue I) (n : StreamsState) : Type 0 where
-    pub rules : q.verdicts.rules ≡ first.verdicts.rules
-    pub labels : q.labels ≡ first.labels
-    pub going : q.outcome ≡ None
-    pub happened : HoldsUpTo q.verdicts n (λ a b. ComesTo a b n)
-    pub so_far : StopHasCause {A = Bool} none_or_one m n (Ok true)
-    pub reads : ReadsToEndIf (q.verdicts.counts.unread ≡ 0) m.inputs n.inputs
-    pub same : IsSameInput (state first.verdicts.reader.input) (state q.verdicts.reader.input)
-    pub taken : q.verdicts.reader.taken + length (state first.verdicts.reader.input).reads.bytes
-        ≡ first.verdicts.reader.taken + length (state q.verdicts.reader.input).reads.bytes
+module _ {I : Type 0} {state : I → InputState} {q next : CheckerValue I} {before after : StreamsState} {vector : List ℕ}
+    (x : Result Bool Stop)
+  where
+    -- a step that ends or stops
+    pub runs_last : TakesStep state vector q next before after (end_result x) → Runs state q next before after x
+    runs_last step =
+        let good_at = λ (good : x ≡ Ok true). step.good (ap end_result good) in
+        let unread : x ≡ Ok true → (next.verdicts.counts.unread ≡ 0) × (q.verdicts.counts.unread ≡ 0) =
+        λ good. let is = good_at good in (is.1, search (rules, arith, is.1, step.advances.counts)) in
+        record {
+          runs = InEachCheck-map step.step (λ c v w step content. last_runs after content _ _ x step);
+          good = λ good. (
+            rw (rw (good_at good).0 at step.advances.found) at step.advances.reader.final_answer,
+            (unread good).1,
+          );
+          few = step.advances.bounds.taken;
+          same = step.advances.reader.same;
+          taken = step.advances.reader.taken;
+          failures = let failures = step.failures in grind arith;
+          reads = reads_weaker (λ good. let is = unread good in omega (arith, is.0, is.1)) step.reads;
+        }
 
-  -- before its first step, a check has come as far as its new checker
-  pub HasComeTo-none : first.outcome ≡ None → HasComeTo first m
-  HasComeTo-none none = search (rules, reads_none, Happened-none)
+    -- a step that goes on, and then the rest of the run
+    pub runs_more : {last : CheckerValue I} {end : StreamsState} → TakesStep state vector q next before after (Ok Going)
+        → Runs state next last after end x → Runs state q last before end x
+    runs_more {last = last} {end = end} step h = record {
+      runs = record {
+        reads = λ reading.
+            let first = step.step.reads reading in
+            ReadsOn-then first (h.runs.reads first.reading) (λ c d e takes runs w agrees content sum fits.
+            let taken = takes w (agrees_before agrees h.reads) in
+            let (later, moves) = taken.going refl in
+            let all = taken.is ∙ ap (behavior_from taken.step) later in
+            let rest = (rw (step.advances.rules, step.labels) at (runs w agrees)) content (moves.consumed ∙ sum) fits in
+            let k = last.verdicts.reader.taken in
+            let left = remaining_behavior q.verdicts.rules q.labels
+            (state_at next.verdicts d (world_at w after.inputs)) in
+            subst (λ all. RunsTo all content k before end x) (sym all)
+            (runs_behind end taken.step left content k x (rw append-nil at taken.performs.1) rest));
+      };
+      good = λ good. let is = h.good good in (is.0, search (rules, arith, is.1, step.advances.counts));
+      few = h.few;
+      same = search rules;
+      taken = omega (arith, step.advances.reader.taken, h.taken);
+      failures = let first = step.failures in let later = h.failures in grind arith;
+      reads = reads_then (λ good. let is = h.good good in
+          (search (rules, arith, is.1, step.advances.counts), good)) step.reads h.reads;
+    }
 
-  -- after one more step, which returned x, P holds if it follows from what happened before and from the step
-  one_more_step : {q : CheckerValue I} {n : StreamsState} (next : CheckerValue I) (o : StreamsState) (vector : List ℕ)
-      (x : Result Progress Stop) {P : CheckState → CheckState → Type 0} → HasComeTo q n
-      → TakesStep state vector q next n o x
-      → ((a b d : CheckState) → ComesTo a b n
-      → IsStep first.verdicts.rules first.labels vector b d n o x → P a d)
-      → HoldsUpTo next.verdicts o P
-  one_more_step {q = q} {n = n} next o vector x h step follows = record {
-    reading = λ reading. step.step.reading (h.happened.reading reading);
-    before = λ reading c of. h.happened.before reading c (step.step.before (h.happened.reading reading) c of);
-    holds = λ reading c of w agrees.
-        let here = h.happened.reading reading in
-        follows _ _ _ (h.happened.holds reading c (step.step.before here c of) w
-        (agrees_before agrees step.reads))
-        (rw (h.rules, h.labels) at (step.step.holds here c of w agrees));
-  }
+-- ---- from the first line on
 
-  -- after a step that goes on, the checker has come one line further
-  pub HasComeTo-more : (q next : CheckerValue I) (n o : StreamsState) (vector : List ℕ) → HasComeTo q n
-      → next.outcome ≡ None → TakesStep state vector q next n o (Ok Going) → HasComeTo next o
-  HasComeTo-more q next n o vector h going step =
-      let happened : HoldsUpTo next.verdicts o (λ a d. ComesTo a d o) =
-      one_more_step next o vector (Ok Going) h step (λ a b d along step. record {
-        done = subst (λ later. HasDoneUpTo (left a) later m o)
-            (step.going refl).0 (done_more step.step step.later along.done step.is step.performs.1);
-        consumed = (step.going refl).1.consumed ∙ along.consumed;
-      }) in
-      let reads : ReadsToEndIf (next.verdicts.counts.unread ≡ 0) m.inputs o.inputs =
-      reads_then (λ none. search (arith, none)) h.reads step.reads in
-      search (rules, arith, happened, reads, step)
+-- the checker came from `first` and the streams `start` to q and the streams `before`, and may go on: what is true of a
+-- run from there is true of one from the start
+pub record GoesOn {I : Type 0} (state : I → InputState) (first : CheckerValue I) (start : StreamsState)
+    (q : CheckerValue I) (before : StreamsState) : Type 0 where
+  pub going : q.outcome ≡ None
+  pub runs : (last : CheckerValue I) (after : StreamsState) (x : Result Bool Stop) → Runs state q last before after x
+      → Runs state first last start after x
 
-  -- the check of this content, whose behavior is `all`, ended or stopped with x once the input had given so many bytes
-  pub record EndsAs (x : Result Bool Stop) (taken : ℕ) (o : StreamsState) (all : Behavior) (c : Content) : Type 0 where
-    pub performs : PerformsSteps all.steps all.good m o x
-    pub stopped : taken ≤ length c.bytes + 8192 → IfErr x (λ stop. StopsAtStep stop all.steps c taken m o)
+module _ {I : Type 0} {state : I → InputState} {first last : CheckerValue I} {before after : StreamsState}
+    {x : Result Bool Stop} (start : IsAtStart state first.verdicts first.verdicts.reader.input)
+    (h : Runs state first last before after x)
+  where
+    -- what was read of the input before the first step
+    abbrev was : Reads
+    was = (state first.verdicts.reader.input).reads
 
-  -- a step that ends or stops
-  module _ (q last : CheckerValue I) (n o : StreamsState) (vector : List ℕ) (x : Result Bool Stop)
-      (start : IsAtStart state first.verdicts first.verdicts.reader.input) (h : HasComeTo q n)
-      (step : TakesStep state vector q last n o (end_result x))
-    where
-      -- what was read of the input before the first step
-      abbrev was : Reads
-      was = (state first.verdicts.reader.input).reads
+    -- what was read of it after the last step
+    abbrev now : Reads
+    now = (state last.verdicts.reader.input).reads
 
-      -- what was read of it after the last step
-      abbrev now : Reads
-      now = (state last.verdicts.reader.input).reads
+    -- how many bytes it gave to the checker: what was read since the start
+    abbrev taken : ℕ
+    taken = last.verdicts.reader.taken
 
-      -- how many bytes it gave to the checker
-      abbrev taken : ℕ
-      taken = last.verdicts.reader.taken
+    counted : taken + length was.bytes ≡ length now.bytes
+    counted = let none : first.verdicts.reader.taken ≡ 0 = rw start.reader refl in omega (arith, none, h.taken)
 
-      -- nothing was taken at the start
-      none : first.verdicts.reader.taken ≡ 0
-      none = rw start.reader refl
+    size : length (drop (length was.bytes) now.bytes) ≡ taken
+    size = length-drop (length was.bytes) now.bytes ∙ omega (arith, counted)
 
-      -- so what was read since the start is what was taken
-      size : length (drop (length was.bytes) now.bytes) ≡ taken
-      size = length-drop (length was.bytes) now.bytes ∙ omega (arith, none, h.taken, step.advances.reader.taken)
-
-      -- the check ended or stopped as it does from the first line on
-      from_start : was.phase ≡ Unfinished → (c : Content) → Fits (reads_past (length was.bytes) now) c
-          → (w : World) → Agrees w o.inputs
-          → EndsAs x taken o (manifest_behavior first.verdicts.rules first.labels (clip c) (world_at w m.inputs))
-          (clip c)
-      from_start going c of w agrees =
-          let before : length was.bytes ≡ length now.bytes - taken =
-          omega (arith, none, h.taken, step.advances.reader.taken) in
-          let ended : HoldsUpTo last.verdicts o (λ a d. a.consumed ≡ 0 → EndsAs x d.taken o (left a) a.remaining) =
-          one_more_step last o vector (end_result x) h step (λ a b d along step none. record {
-            performs = done_last o step.step step.later x along.done step.is step.performs;
-            stopped = stops_at_step o a b d x along.done (omega (arith, along.consumed, none)) step;
-          }) in
-          let here = world_at w m.inputs in
-          subst (λ all. EndsAs x taken o all (clip c))
+    -- A run from the first line on ends with the manifest's behavior, or stops at one of its steps. The input was never
+    -- read past its end or a fault; and to its end, if the manifest is good
+    pub runs_manifest : RunsManifest first.verdicts.rules first.labels (state first.verdicts.reader.input)
+        (state last.verdicts.reader.input) before after x
+    runs_manifest = record {
+      runs = λ going c of w agrees.
+          let reads = h.runs.reads (start.reading going) in
+          let all_read : length was.bytes ≡ length now.bytes - taken = omega (arith, counted) in
+          let fits = read_fits_clip now.phase _ c reads.reading.past of (rw size h.few) in
+          let here = world_at w before.inputs in
+          rw size (subst (λ all. RunsTo all (clip c) taken before after x)
           (remaining-initial first.verdicts.rules first.labels (clip c) here)
-          (subst (λ a. a.consumed ≡ 0 → EndsAs x taken o (left a) a.remaining) (state-initial start c here)
-          (ended.holds (start.reading going) c (subst (λ n. Fits (reads_past n now) c) before of) w agrees)
-          refl)
-
-      -- The step that ends completes the manifest's behavior. One that stops leaves a prefix of it after a write fault,
-      -- and whole steps if memory ran out; at most 8,192 bytes were read past its line. The input was never read past
-      -- its end or a fault; and to its end, if it is good
-      pub HasComeTo-last : RunsManifest first.verdicts.rules first.labels (state first.verdicts.reader.input)
-          (state last.verdicts.reader.input) m o x
-      HasComeTo-last =
-          let reading = λ (going : was.phase ≡ Unfinished).
-          step.step.reading (h.happened.reading (start.reading going)) in
-          let good_at = λ (good : x ≡ Ok true). step.good (ap end_result good) in
-          record {
-            behavior = λ going c of w agrees. (from_start going c of w agrees).performs;
-            stopped = λ going c of w agrees.
-                let past = (reading going).past in
-                let fits = read_fits_clip now.phase _ c past of (rw size step.advances.bounds.taken) in
-                rw size ((from_start going c of w agrees).stopped (rw size at fits));
-            manifest = λ going.
-                ((reading going).past, λ good. (reading going).end (step.advances.end (good_at good).0));
-            same = search rules;
-            cause = cause_ends x h.so_far step.cause;
-            reads = reads_then (λ good. search (arith, (good_at good).1)) h.reads step.reads;
-          }
+          (subst (λ a. a.consumed + length a.remaining.bytes ≡ length (clip c).bytes
+          → RunsTo (remaining_behavior first.verdicts.rules first.labels a) (clip c) taken before after x)
+          (state-initial start c here)
+          (λ sum. reads.holds c (subst (λ n. Fits (reads_past n now) c) all_read of) w agrees (clip c) sum
+          (rw size at fits)) (omega arith)));
+      manifest = λ going.
+          let reading = (h.runs.reads (start.reading going)).reading in
+          (reading.past, λ good. reading.end (h.good good).0);
+      same = h.same;
+      failures = h.failures;
+      reads = h.reads;
+    }

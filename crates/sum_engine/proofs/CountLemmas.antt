@@ -1,6 +1,7 @@
 -- The counts of a summary are numbers of members, and the code's running counters are they.
 use Rattle.std.proofs.Common.{rules, arith, ◌≡◌, ◌≤◌, ◌+◌, []}
-use Rattle.sum_engine.specs.check.{Counts.Counts, Counts.counts_of, Counts.counts_and_line, Counts.counts_then, Counts.total, Judge.Verdict}
+use Rattle.sum_engine.specs.check.{Counts.Counts, Counts.counts_of, Counts.counts_and_line, Counts.counts_then}
+use Rattle.sum_engine.specs.check.{Counts.total, Judge.Verdict}
 
 -- one more line is at most one more that isn't ignored
 pub total_with : (n : Counts) (v : Verdict) → total (counts_and_line n v) ≤ total n + 1

@@ -1,9 +1,14 @@
 -- What happened from one state to another, one event after another.
-use Rattle.std.proofs.Common.{rules, arith, ◌≡◌, ◌<◌, ◌+◌, ℕ, List, [], ◌∷◌, ◌++◌, map, Option, None, Some, Result, Ok, Err, refl, inl, inr, append_assoc, append-nil, filter_map}
-use Rattle.std.{proofs.lemmas.List.map-append, proofs.lemmas.List.Elements.filter_map-append, specs.Prelude.◌⊎◌, specs.Prelude.Any}
-use Rattle.sum_lines.{proofs.EventLemmas.Gets-none, proofs.EventLemmas.Gets-then, specs.sinks.Output.Gets, specs.sinks.Output.OutputEvent, specs.sinks.Output.output_events}
-use Rattle.sum_engine.specs.Execution.{RefusesMemory, opened_names, AsksNames, Happened, RunsOutOfMemory, streams_with_refusals, PerformsSteps}
-use Rattle.sum_engine.specs.{Behavior.Event, Behavior.Step, Behavior.open_name, Behavior.to_err, Behavior.to_out, Streams.WritesBoth, Streams.WritesAndReturns, Streams.StreamsState, Streams.none_or_one}
+use Rattle.std.proofs.Common.{rules, arith, ◌≡◌, ◌<◌, ℕ, List, [], ◌∷◌, ◌++◌, map, Option, None, Some, Result, Ok, Err}
+use Rattle.std.proofs.Common.{refl, inl, inr, append_assoc, append-nil, filter_map}
+use Rattle.std.{proofs.lemmas.List.map-append, proofs.lemmas.List.Elements.filter_map-append, specs.Prelude.◌⊎◌}
+use Rattle.std.{specs.Prelude.◌≢◌}
+use Rattle.sum_lines.{proofs.EventLemmas.Gets-none, proofs.EventLemmas.Gets-then, specs.sinks.Output.Gets}
+use Rattle.sum_lines.{specs.sinks.Output.OutputEvent, specs.sinks.Output.output_events}
+use Rattle.sum_engine.specs.Execution.{RefusesMemory, opened_names, OpensNames, Happened, RunsOutOfMemory}
+use Rattle.sum_engine.specs.Execution.{streams_with_refusals, PerformsSteps}
+use Rattle.sum_engine.specs.{Behavior.Event, Behavior.Step, Behavior.open_name, Behavior.to_err, Behavior.to_out}
+use Rattle.sum_engine.specs.{Streams.WritesBoth, Streams.WritesAndReturns, Streams.StreamsState}
 use Rattle.sum_engine.proofs.WorldLemmas.{asks_none, asks_then}
 use Rattle.sum_sources.specs.sources.Source.{SourceState}
 use Rattle.sum_settings.specs.declared.stop.Stop.{Stop, TheVariants.Memory, TheVariants.Write}
@@ -21,7 +26,8 @@ filter_map-kind f h same [] = refl
 filter_map-kind f h same (x ∷ xs) = search (rules, filter_map-kind f h same xs)
 
 -- among events of another kind, none is found
-pub filter_map-other_kind : {A B : Type 0} (f : A → Event) (h : Event → Option B) → ((x : A) → h (f x) ≡ None) → (xs : List A)
+pub filter_map-other_kind : {A B : Type 0} (f : A → Event) (h : Event → Option B) → ((x : A) → h (f x) ≡ None)
+    → (xs : List A)
     → filter_map h (map f xs) ≡ []
 filter_map-other_kind f h none [] = refl
 filter_map-other_kind f h none (x ∷ xs) = search (rules, filter_map-other_kind f h none xs)
@@ -30,7 +36,7 @@ filter_map-other_kind f h none (x ∷ xs) = search (rules, filter_map-other_kind
 
 -- these names were opened, and the outputs got these events
 pub Happened-by : {a b : StreamsState} (names : List (List ℕ)) (err out : List OutputEvent)
-    → AsksNames a.inputs b.inputs names → Gets a.outputs.err b.outputs.err err
+    → OpensNames a.inputs b.inputs names → Gets a.outputs.err b.outputs.err err
     → Gets a.outputs.out b.outputs.out out
     → Happened a b (events_by names err out)
 Happened-by names err out h p q = search (rules, filter_map-append, filter_map-kind, filter_map-other_kind)
@@ -49,14 +55,14 @@ Happened-then p q h k =
 
 -- the names were opened and the texts written, or a prefix of them: the step that has these was performed
 pub step_performed : {A : Type 0} {a b : StreamsState} {names : List (List ℕ)} {err out : List ℕ} {x : A}
-    (remaining : ℕ) (r : Result A Stop) → AsksNames a.inputs b.inputs names
+    (remaining : ℕ) (r : Result A Stop) → OpensNames a.inputs b.inputs names
     → WritesAndReturns a.outputs b.outputs err out x r
-    → PerformsSteps (record { names = names; err = err; out = out; remaining = remaining } ∷ []) x a b r
+    → PerformsSteps (record { names = names; err = err; out = out; manifest_left = remaining } ∷ []) x a b r
 step_performed {A} {a} {b} {names} {err} {out} {x} remaining r asked said = by r said.writes
   where
     -- by what was written
     by : (r : Result A Stop) → WritesBoth a.outputs b.outputs err out x r
-        → PerformsSteps (record { names = names; err = err; out = out; remaining = remaining } ∷ []) x a b r
+        → PerformsSteps (record { names = names; err = err; out = out; manifest_left = remaining } ∷ []) x a b r
     by (Ok y) h = rw append-nil (h.0, Happened-by names _ _ asked h.1 h.2)
     by (Err Write) (inl (h, same)) =
         let rest : List Event = map to_err h.1 ++ map to_out (output_events out) in
@@ -68,10 +74,10 @@ step_performed {A} {a} {b} {names} {err} {out} {x} remaining r asked said = by r
         rw append-nil (events_by names (output_events err) h.0, rest, search (rules, map-append, append_assoc), did)
     by (Err Memory) h = absurd h
 
--- memory was refused for the first step, or bytes of the manifest remained, and nothing happened
+-- memory was refused for the name that the first step opens, or bytes of the manifest remained, and nothing happened
 pub refused_first : {a b : StreamsState} {steps : List Step} (next : Step) (later : List Step) → steps ≡ next ∷ later
-    → b.outputs ≡ a.outputs → RefusesMemory a.inputs b.inputs ⊎ ((b.inputs ≡ a.inputs) × (0 < next.remaining))
-    → RunsOutOfMemory steps a b
+    → b.outputs ≡ a.outputs → (RefusesMemory a.inputs b.inputs × (next.names ≢ []))
+    ⊎ ((b.inputs ≡ a.inputs) × (0 < next.manifest_left)) → RunsOutOfMemory steps a b
 refused_first {a} {b} next later are outputs refused =
     let same : streams_with_refusals a.inputs.refusals b ≡ a = grind arith in
     record {
@@ -82,14 +88,6 @@ refused_first {a} {b} next later are outputs refused =
       happened = rw same (Happened-none a);
       cause = grind arith;
     }
-
--- ---- the cause of a stop
-
--- memory was refused once, or not at all
-pub one_at_most : {X : Type 0} (a b : SourceState) → RefusesMemory a b ⊎ ((b ≡ a) × X)
-    → Any (λ n. b.refusals ≡ a.refusals + n) none_or_one
-one_at_most a b (inl refused) = (1, 1, search arith, refl, rw refused refl)
-one_at_most a b (inr same) = (0, 0, search arith, refl, rw same.0 (omega arith))
 
 -- ---- a file was closed
 

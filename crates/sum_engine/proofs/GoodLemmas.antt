@@ -1,14 +1,28 @@
 -- A manifest of lines that were written for whole files is good: by induction on its lines.
-use Rattle.std.proofs.Common.{rules, ◌≡◌, ℕ, suc, ◌+◌, ◌<◌, true, false, List, [], ◌∷◌, ◌++◌, length, map, refl, ap, ◌∙◌, append_assoc, arith, inl, append-nil, flat_map, All, Ok}
-use Rattle.std.proofs.{Math.Bool.and-false, Math.Bool.or-true, lemmas.Bool.ne_eqb, lemmas.List.Elements.All-head, lemmas.List.Elements.All-tail, lemmas.Slice.Eq.bytes_eq-Decides}
-use Rattle.sum_engine.specs.check.{CheckOne.line_steps, CheckOne.content_behavior, CheckOne.check_behavior_by, CheckOne.check_behavior, Rules.LabelsValue, Rules.rules_of, Rules.labels_of, Rules.CheckRules, Summary.end_text, Checker.behavior_from}
-use Rattle.sum_engine.{specs.Behavior.World, specs.Behavior.answer_to, specs.Behavior.world_after, specs.Behavior.Behavior, specs.Behavior.out_text, specs.Behavior.err_text, proofs.CheckOneLemmas.opening}
-use Rattle.sum_engine.specs.check.{Judge.Right, Judge.LineVerdictValue, Judge.judge, Judge.line_verdict, Judge.verdicts, Judge.all_verdicts, Report.out_by, Report.out_of, Report.err_of, Counts.Counts, Counts.counts_of, Counts.good}
-use Rattle.sum_engine.proofs.ListedEntryLemmas.{Item, written_text, Listed, prefix, spelled_for, ReadableSoFar, back, whole, lines-are}
+use Rattle.digest_kinds.specs.Bytes.{LIMIT}
+use Rattle.std.proofs.Common.{rules, ◌≡◌, ℕ, suc, ◌+◌, ◌<◌, true, false, List, [], ◌∷◌, ◌++◌, length, map, refl, ap}
+use Rattle.std.proofs.Common.{◌∙◌, append_assoc, arith, inl, append-nil, flat_map, All, Ok}
+use Rattle.std.proofs.{Math.Bool.and-false, Math.Bool.or-true, lemmas.Bool.ne_eqb, lemmas.List.Elements.All-head}
+use Rattle.std.proofs.{lemmas.List.Elements.All-tail, lemmas.Slice.Eq.bytes_eq-Decides}
+use Rattle.sum_engine.specs.check.{CheckOne.line_steps, CheckOne.content_behavior, CheckOne.check_behavior_by}
+use Rattle.sum_engine.specs.check.{CheckOne.check_behavior, Rules.LabelsValue, Rules.rules_of, Rules.labels_of}
+use Rattle.sum_engine.specs.check.{Rules.CheckRules, Summary.end_text, Checker.behavior_from}
+use Rattle.sum_engine.{specs.Behavior.World, specs.Behavior.answer_to, specs.Behavior.world_after}
+use Rattle.sum_engine.{specs.Behavior.Behavior, specs.Behavior.out_text, specs.Behavior.err_text}
+use Rattle.sum_engine.{proofs.CheckOneLemmas.opening}
+use Rattle.sum_engine.specs.check.{Judge.Right, Judge.LineVerdictValue, Judge.judge, Judge.line_verdict}
+use Rattle.sum_engine.specs.check.{Judge.verdicts_of, Judge.all_verdicts, Report.out_by, Report.out_of, Report.err_of}
+use Rattle.sum_engine.specs.check.{Counts.Counts, Counts.counts_of, Counts.is_manifest_good}
+use Rattle.sum_engine.proofs.ListedEntryLemmas.{Item, written_text, Listed, prefix, spelled_for, ReadableSoFar, back}
+use Rattle.sum_engine.proofs.ListedEntryLemmas.{whole, lines-are}
 use Rattle.digest_kinds.specs.declared.algo.Algos.{Algos}
-use Rattle.sum_lines.{proofs.ParsedLineLemmas.parse_is_grammar, specs.Escape.escape, specs.declared.reading.read_line.Form.Form, specs.grammar.Entries.IsEntry, specs.grammar.Form.form, specs.grammar.ParsedLines.parse_line}
+use Rattle.sum_lines.{proofs.ParsedLineLemmas.parse_is_grammar, specs.Escape.escape}
+use Rattle.sum_lines.{specs.declared.reading.read_line.Form.Form, specs.grammar.Entries.IsEntry}
+use Rattle.sum_lines.{specs.grammar.Form.form_of, specs.grammar.ParsedLines.parse_line}
 use Rattle.sum_sources.proofs.ContentLemmas.{limit-value, clip-short}
-use Rattle.sum_sources.specs.{ManifestLines.past_line, declared.fault.Ending.TheVariants.Whole, inputs.Input.Content, inputs.Input.limit, sources.Source.AnswerValue, sources.Source.times, sources.WithStdin.is_dash}
+use Rattle.sum_sources.specs.{declared.fault.Ending.TheVariants.Whole, inputs.Input.Content, sources.Source.AnswerValue}
+use Rattle.sum_sources.specs.{sources.Source.times, sources.WithStdin.is_dash}
+use Rattle.sum_sources.specs.LineReader.{past_line}
 use Rattle.sum_settings.specs.declared.settings.{CheckSettings.CheckSettings, Report.Report}
 
 -- ---- each verdict is Right
@@ -39,9 +53,11 @@ judged r files w n f i steady h e =
     rw ((is.when_entry (spelled_for i)).1 e, verdict) refl
 
 -- written lines are all judged right, each in the world that those before it leave
-right-verdicts : (r : CheckRules) (files : List ℕ → AnswerValue) (before : List (List ℕ)) (is : List Item) (w : World) (n : ℕ)
+right-verdicts : (r : CheckRules) (files : List ℕ → AnswerValue) (before : List (List ℕ)) (is : List Item) (w : World)
+    (n : ℕ)
     → Steady files w → ReadableSoFar r.algo before → All (Listed r.algo files) is
-    → verdicts r w n (map (parse_line r.algo (form r.algo (before ++ map prefix is))) (map prefix is)) ≡ rights n is
+    → verdicts_of r w n (map (parse_line r.algo (form_of r.algo (before ++ map prefix is))) (map prefix is))
+    ≡ rights n is
 right-verdicts r files before [] w n steady u all = refl
 right-verdicts r files before (i ∷ is) w n steady u all =
     let algos : Algos = r.algo in
@@ -79,7 +95,7 @@ module _ (r : CheckRules) (labels : LabelsValue) where
       let (out, err) = texts-are end (past_line c) js in search (rules, append_assoc, out, err)
 
 -- a manifest of right lines is good
-is-good : (r : CheckRules) (k : ℕ) → good r Whole (right_counts (suc k)) ≡ true
+is-good : (r : CheckRules) (k : ℕ) → is_manifest_good r Whole (right_counts (suc k)) ≡ true
 is-good r k = rw (ne_eqb (suc k) 0 (λ e. omega (arith, e)), or-true) refl
 
 -- ---- the whole manifest
@@ -93,7 +109,7 @@ pub record Found (check : CheckSettings) (tool : List ℕ) (w : World) (manifest
 -- a manifest with at least one line is good, and each of its names is reported as right
 pub manifest_good : (check : CheckSettings) (tool manifest : List ℕ) (files : List ℕ → AnswerValue) (w : World)
     (is : List Item) → Steady files w → All (Listed check.algo files) is → 0 < length is
-    → length (flat_map written_text is) < limit → answer_to w manifest ≡ Ok (whole is) → Found check tool w manifest is
+    → length (flat_map written_text is) < LIMIT → answer_to w manifest ≡ Ok (whole is) → Found check tool w manifest is
 manifest_good check tool manifest files w [] steady all some fits given = absurd (omega arith)
 manifest_good check tool manifest files w (i ∷ is) steady all some fits given =
     let r : CheckRules = rules_of check (is_dash manifest) in
@@ -106,12 +122,12 @@ manifest_good check tool manifest files w (i ∷ is) steady all some fits given 
     let of : Content → List LineVerdictValue → Behavior =
     λ c js. behavior_from (opening manifest) (content_behavior r labels c js) in
     let here = ap (check_behavior_by r labels manifest next) given
-    ∙ ap (λ c. of c (all_verdicts r next c)) (clip-short c (rw limit-value at fits)) ∙ ap (of c) verdicts in
+    ∙ ap (λ c. of c (all_verdicts r next c)) (clip-short c fits) ∙ ap (of c) verdicts in
     let are = rights-are r labels 0 (i ∷ is) in
     let end = end_text r labels Whole (counts_of js) in
     let texts = texts-are r labels end c js in
     record {
-      good = ap (λ (q : Behavior). q.good) here ∙ ap (good r Whole) are.2 ∙ is-good r (length is);
+      good = ap (λ (q : Behavior). q.good) here ∙ ap (is_manifest_good r Whole) are.2 ∙ is-good r (length is);
       out = ap out_text here ∙ texts.0 ∙ are.0;
       err = ap err_text here ∙ texts.1 ∙ ap (λ t. t ++ end) are.1
           ∙ ap (end_text r labels Whole) are.2 ∙ search rules;

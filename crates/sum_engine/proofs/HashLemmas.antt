@@ -1,9 +1,11 @@
 -- `Inputs::hash_file`: a name is hashed, and in each world that agrees with what was read this is of its answer.
 use Rattle.std.proofs.Common.{rules, refl, ◌≡◌, ◌≢◌, [], ◌∷◌, ℕ, List, Result, Ok, Err}
 use Rattle.digest_kinds.specs.Kind.{KindValue}
-use Rattle.sum_sources.specs.{declared.fault.Fault.Fault, declared.sources.hash_file.HashFault.HashFault, sources.HashFile.HashesFile, sources.Source.AnswerValue, sources.Source.SourceState}
+use Rattle.sum_sources.specs.{declared.fault.Fault.Fault, declared.sources.hash_file.HashFault.HashFault}
+use Rattle.sum_sources.specs.{sources.HashFile.HashesFile, sources.Source.AnswerValue, sources.Source.SourceState}
 use Rattle.sum_engine.proofs.WorldLemmas.{opening_agrees, asks_one, reads_one}
-use Rattle.sum_engine.specs.{Behavior.World, Behavior.answer_to, Behavior.digest_or_fault, Execution.Agrees, Execution.world_at, Execution.AsksNames, Execution.ReadsToEndIf, Execution.RefusesMemory}
+use Rattle.sum_engine.specs.{Behavior.World, Behavior.answer_to, Behavior.digest_or_fault, Execution.Agrees}
+use Rattle.sum_engine.specs.{Execution.world_at, Execution.OpensNames, Execution.ReadsToEndIf, Execution.RefusesMemory}
 use Rattle.sum_sources.specs.declared.sources.hash_file.HashFault.TheVariants as hashing
 use Rattle.sum_sources.specs.declared.sources.source.OpenFault.TheVariants as faults
 
@@ -15,9 +17,9 @@ IsHashOf kind x (Err (hashing.Read f)) = (digest_or_fault kind x ≡ Err f) × (
 IsHashOf kind x (Err (hashing.Open faults.Memory)) = Unit {0}
 
 -- the name is opened, unless memory was refused
-abbrev pub AsksUnlessRefused : List ℕ → SourceState → SourceState → Result (List ℕ) HashFault → Type 0
-AsksUnlessRefused name a b (Err (hashing.Open faults.Memory)) = RefusesMemory a b
-AsksUnlessRefused name a b r = AsksNames a b (name ∷ [])
+abbrev pub OpensUnlessRefused : List ℕ → SourceState → SourceState → Result (List ℕ) HashFault → Type 0
+OpensUnlessRefused name a b (Err (hashing.Open faults.Memory)) = RefusesMemory a b
+OpensUnlessRefused name a b r = OpensNames a b (name ∷ [])
 
 -- reading it didn't fail
 abbrev pub IsNotBroken : Result (List ℕ) HashFault → Type 0
@@ -28,7 +30,7 @@ IsNotBroken r = Unit {0}
 pub record HashesName (kind : KindValue) (name : List ℕ) (a b : SourceState) (r : Result (List ℕ) HashFault)
     : Type 0 where
   pub hash : (w : World) → Agrees w b → IsHashOf kind (answer_to (world_at w a) name) r
-  pub asked : AsksUnlessRefused name a b r
+  pub opened : OpensUnlessRefused name a b r
   pub reads : ReadsToEndIf (IsNotBroken r) a b
 
 -- a call that hashes the file of a name has this effect
@@ -41,7 +43,8 @@ hashes_name (Err (hashing.Open faults.Memory)) h = search rules
 hashes_name {name = name} {a} {b} r h = record {
   hash = λ w agrees.
       let (c, is, of) = opening_agrees agrees a.openings [] name (Ok h.reads) (rw h.closed refl) in
-      let found = h.hashes.digest refl c of in search (rules, is);
-  asked = asks_one a b name _ h.closed;
-  reads = reads_one a b name (Ok h.reads) h.closed (h.hashes.past refl, λ u. search (rules, h.hashes.end refl));
+      let found = (h.hashes.reads refl).digest c of in search (rules, is);
+  opened = asks_one a b name _ h.closed;
+  reads = reads_one a b name (Ok h.reads) h.closed
+      ((h.hashes.reads refl).past, λ u. search (rules, (h.hashes.reads refl).end));
 }

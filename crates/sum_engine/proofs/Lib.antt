@@ -9,14 +9,15 @@ pub mod RemainingLemmas
 pub mod StepLemmas
 pub mod NextVerdictLemmas
 pub mod BehaviorLemmas
-pub mod JoinLemmas
-pub mod ReadAheadLemmas
 pub mod CheckLinesLemmas
+pub mod JoinLemmas
 pub mod CheckOneLemmas
 pub mod SameFrontLemmas
 pub mod CarriageReturnLemmas
 pub mod ListedEntryLemmas
 pub mod GoodLemmas
 pub mod OldNames
+pub mod OldTexts
 pub mod OldVerdicts
 pub mod WorldLaws
+pub mod VerdictJoinLemmas

@@ -1,12 +1,18 @@
 -- A line without a carriage return, neither as a byte nor in its name, says now what it said to older versions.
-use Rattle.std.proofs.Common.{rules, arith, ◌≡◌, ◌≢◌, ◌<◌, ◌==◌, ℕ, Bool, List, [], ◌∷◌, ◌++◌, length, refl, sym, inl, inr, subst, codes, append_assoc, if◌then◌else◌}
+use Rattle.std.proofs.Common.{rules, arith, ◌≡◌, ◌≢◌, ◌<◌, ◌==◌, ℕ, Bool, List, [], ◌∷◌, ◌++◌, length, refl, sym, inl}
+use Rattle.std.proofs.Common.{inr, subst, codes, append_assoc, if◌then◌else◌}
 use Rattle.std.proofs.lemmas.List.Elements.{All-nil, All-cons, All-head, All-tail, All-take, All-drop}
-use Rattle.std.{proofs.lemmas.List.take_at, proofs.lemmas.List.drop_at, proofs.lemmas.Bool.Decides.nat_tests, specs.List.starts_with}
-use Rattle.digest_kinds.specs.{Algo.tag, Kind.KindValue, declared.algo.Algos.Algos}
-use Rattle.sum_lines.{proofs.EntryLemmas.entry_by, proofs.ParsedLineLemmas.parse_is_grammar, specs.Escape.escape, specs.declared.reading.read_line.Form.Form, specs.grammar.Entries.EntryValue}
-use Rattle.sum_lines.specs.grammar.{Entries.is_ignored, Entries.IsRawName, Entries.IsEntry, ParsedLines.ParsedLine, ParsedLines.ignored, ParsedLines.bad, ParsedLines.entry, ParsedLines.parse_line, Shapes.IsPlain, Shapes.IsTagged, Shapes.mark}
+use Rattle.std.{proofs.lemmas.List.take_at, proofs.lemmas.List.drop_at, proofs.lemmas.Bool.Decides.nat_tests}
+use Rattle.std.{specs.List.starts_with}
+use Rattle.digest_kinds.specs.{Algo.tag_of, Kind.KindValue, declared.algo.Algos.Algos}
+use Rattle.sum_lines.{proofs.EntryLemmas.entry_by, proofs.ParsedLineLemmas.parse_is_grammar, specs.Escape.escape}
+use Rattle.sum_lines.{specs.declared.reading.read_line.Form.Form, specs.grammar.Entries.EntryValue}
+use Rattle.sum_lines.specs.grammar.{Entries.is_ignored, Entries.IsRawName, Entries.IsEntry, ParsedLines.ParsedLine}
+use Rattle.sum_lines.specs.grammar.{ParsedLines.ignored, ParsedLines.bad, ParsedLines.entry, ParsedLines.parse_line}
+use Rattle.sum_lines.specs.grammar.{Shapes.IsPlain, Shapes.IsTagged, Shapes.backslash_if}
 use Rattle.sum_lines.specs.declared.reading.read_line.Form.TheVariants.{Undecided, Standard, Reversed}
-use Rattle.sum_engine.{proofs.CarriageReturnLemmas.IsNoCarriageReturn, specs.OldVerdicts.older_escape, specs.OldVerdicts.SaidOnce, specs.OldVerdicts.HasNoCarriageReturn, specs.OldVerdicts.NamesNoCarriageReturn}
+use Rattle.sum_engine.{proofs.CarriageReturnLemmas.IsNoCarriageReturn}
+use Rattle.sum_engine.specs.Laws.{older_escape, SaidOnce, HasNoCarriageReturn, NamesNoCarriageReturn}
 
 -- ---- bytes without a carriage return
 
@@ -66,7 +72,8 @@ raw_clean Standard tail raw h is = All-tail IsNoCarriageReturn is.1 raw (subst H
 tag_clean : {algos : Algos} {line : List ℕ} {e : Bool} {kind : KindValue} {d raw : List ℕ} → HasNoCarriageReturn line
     → IsTagged algos line e kind d raw → HasNoCarriageReturn raw
 tag_clean {line = line} {e} {kind} {raw = raw} free p =
-    let front = p.blanks ++ (mark e ++ (tag kind.algo ++ (p.width ++ (if p.gap then codes " (" else codes "(")))) in
+    let front = p.blanks ++ (backslash_if e
+    ++ (tag_of kind.algo ++ (p.width ++ (if p.gap then codes " (" else codes "(")))) in
     let rest = codes ")" ++ (p.before ++ (codes "=" ++ (p.after ++ p.digits))) in
     part_clean front raw rest line (search (rules, p.whole, append_assoc)) free
 
@@ -74,7 +81,7 @@ tag_clean {line = line} {e} {kind} {raw = raw} free p =
 tail_clean : {algos : Algos} {line : List ℕ} {e : Bool} {kind : KindValue} {d tail : List ℕ} → HasNoCarriageReturn line
     → IsPlain algos line e kind d tail → HasNoCarriageReturn tail
 tail_clean {line = line} {e} {tail = tail} free p =
-    let front = p.blanks ++ (mark e ++ (p.digits ++ p.blank ∷ [])) in
+    let front = p.blanks ++ (backslash_if e ++ (p.digits ++ p.blank ∷ [])) in
     part_clean front tail [] line (search (rules, p.whole, append_assoc)) free
 
 -- ---- the entry

@@ -1,13 +1,23 @@
--- `old_verdicts`: a manifest of the time of older versions says now what it said to them.
-use Rattle.std.proofs.Common.{rules, ◌≡◌, ◌∙◌, ℕ, ◌+◌, ◌<◌, List, [], ◌∷◌, ◌++◌, length, refl, ap, sym, subst, append_assoc, flat_map, All, map, ◌↔◌}
-use Rattle.std.proofs.lemmas.List.Elements.{All-nil, All-cons, All-head, All-tail, All-weaker}
+-- `old_verdicts`: a manifest of the time of older versions is checked as they checked it.
+use Rattle.std.specs.Str.{byte}
+use Rattle.std.proofs.Common.{rules, ◌≡◌, ◌∙◌, ℕ, ◌+◌, ◌<◌, List, [], ◌∷◌, ◌++◌, length, refl, ap, sym, subst}
+use Rattle.std.proofs.Common.{append_assoc, flat_map, All, map, ◌↔◌}
+use Rattle.std.proofs.lemmas.List.Elements.{All-nil, All-cons, All-head, All-tail}
 use Rattle.digest_kinds.specs.declared.algo.Algos.{Algos}
-use Rattle.sum_lines.{proofs.EntryLemmas.entry-not_ignored, specs.Escape.escape, specs.declared.reading.read_line.Form.Form, specs.grammar.Form.form}
+use Rattle.sum_lines.{proofs.EntryLemmas.entry-not_ignored, specs.declared.reading.read_line.Form.Form}
+use Rattle.sum_lines.{specs.grammar.Form.form_of}
 use Rattle.sum_lines.specs.grammar.ParsedLines.{ParsedLine, ignored, bad, entry, parse_line}
-use Rattle.sum_sources.{proofs.CutLemmas.bytes_of_lines, proofs.CutLemmas.cut, proofs.CutLemmas.raw_lines-joined, specs.ManifestLines.raw_lines, specs.ManifestLines.last_line, specs.declared.fault.Ending.Ending}
-use Rattle.sum_engine.specs.OldVerdicts.{older_escape, SaidOnce, EachSaidOnce, ContentSaidOnce, HasNoCarriageReturn, NamesNoCarriageReturn, OldVerdicts, OlderDiffers}
-use Rattle.sum_engine.proofs.{CarriageReturnLemmas.strips-kept, OldNames.parts_clean, OldNames.same_escape, OldNames.CleanParsedLine, OldNames.says_clean, OldNames.said_once, OldNames.said_one}
-use Rattle.sum_engine.specs.{check.Rules.CheckRules, Behavior.World, Behavior.world_after, check.Judge.LineVerdictValue, check.Judge.line_verdict, check.Judge.asks_of, check.Judge.verdicts, check.Judge.parsed_content, check.Judge.all_verdicts}
+use Rattle.sum_sources.{proofs.CutLemmas.bytes_of_lines, proofs.CutLemmas.cut, proofs.CutLemmas.raw_lines-joined}
+use Rattle.sum_sources.{specs.declared.fault.Ending.Ending}
+use Rattle.sum_sources.specs.LineReader.{raw_lines, last_line}
+use Rattle.sum_engine.specs.Laws.{older_behavior, SaidOnce, EachSaidOnce, ContentSaidOnce, HasNoCarriageReturn}
+use Rattle.sum_engine.specs.Laws.{NamesNoCarriageReturn, OldVerdicts, OlderDiffers}
+use Rattle.sum_engine.proofs.{CarriageReturnLemmas.strips-kept, OldNames.parts_clean, OldNames.CleanParsedLine}
+use Rattle.sum_engine.proofs.{OldNames.says_clean, OldNames.said_once, OldNames.said_one, OldTexts.CleanName}
+use Rattle.sum_engine.proofs.{OldTexts.behavior_same}
+use Rattle.sum_engine.specs.{check.Rules.CheckRules, Behavior.World, Behavior.world_after, check.Judge.line_verdict}
+use Rattle.sum_engine.specs.{check.Judge.names_in_line, check.Judge.verdicts_of, check.Judge.parsed_content}
+use Rattle.sum_engine.specs.{check.Judge.all_verdicts}
 
 -- ---- the lines
 
@@ -16,9 +26,10 @@ ended_clean : (e : Ending) (ended : List (List ℕ)) (tail : List ℕ) → HasNo
     → All HasNoCarriageReturn (ended ++ last_line e tail)
 ended_clean e [] tail free = search rules
 ended_clean e (p ∷ ps) tail free =
-    let whole : HasNoCarriageReturn ((p ++ 10 ∷ []) ++ bytes_of_lines ps tail) =
-    subst HasNoCarriageReturn (append_assoc (p ++ 10 ∷ []) (flat_map (λ piece. piece ++ 10 ∷ []) ps) tail) free in
-    let (line, rest) = parts_clean (p ++ 10 ∷ []) _ whole in
+    let whole : HasNoCarriageReturn ((p ++ byte "\n" ∷ []) ++ bytes_of_lines ps tail) =
+    subst HasNoCarriageReturn (append_assoc (p ++ byte "\n" ∷ [])
+    (flat_map (λ piece. piece ++ byte "\n" ∷ []) ps) tail) free in
+    let (line, rest) = parts_clean (p ++ byte "\n" ∷ []) _ whole in
     All-cons HasNoCarriageReturn p (ps ++ last_line e tail) (parts_clean p _ line).0 (ended_clean e ps tail rest)
 
 -- no line of a content without a carriage return has one
@@ -58,10 +69,6 @@ module _ (algos : Algos) (f : Form) where
 
 -- ---- the names of their verdicts
 
--- a name that holds no carriage return
-abbrev CleanName : LineVerdictValue → Type 0
-CleanName j = HasNoCarriageReturn j.name
-
 -- the verdict of a line that names none
 line_clean : (r : CheckRules) (w : World) (n : ℕ) (x : ParsedLine) → CleanParsedLine x
     → CleanName (line_verdict r w n x)
@@ -71,38 +78,38 @@ line_clean r w n (entry s) h = h
 
 -- the verdicts of such lines
 names_clean : (r : CheckRules) (f : Form) (w : World) (n : ℕ) (ls : List (List ℕ)) → All (Alike r.algo f) ls
-    → All CleanName (verdicts r w n (map (parse_line r.algo f) ls))
+    → All CleanName (verdicts_of r w n (map (parse_line r.algo f) ls))
 names_clean r f w n [] all = All-nil CleanName
 names_clean r f w n (l ∷ ls) all =
     let x = parse_line r.algo f l in
     let j = line_verdict r w (n + 1) x in
     let free = says_clean r.algo f l (All-head (Alike r.algo f) l ls all).no_escape in
     All-cons CleanName j _ (line_clean r w (n + 1) x free)
-    (names_clean r f (world_after w (asks_of j)) (n + 1) ls (All-tail (Alike r.algo f) l ls all))
+    (names_clean r f (world_after w (names_in_line j)) (n + 1) ls (All-tail (Alike r.algo f) l ls all))
 
 -- ---- the laws
 
--- a manifest of the time of older versions says what it said to them, and each name has the same escape
+-- a manifest of the time of older versions is checked as they checked it
 pub old_verdicts : OldVerdicts
 old_verdicts r labels w c h =
-    let f = form r.algo (raw_lines c) in
+    let f = form_of r.algo (raw_lines c) in
     let clean = pieces_clean c.ending c.bytes h.no_byte in
     let all : All (Alike r.algo f) (raw_lines c) =
     λ k d lt. record { no_byte = clean k d lt; no_escape = h.no_escape k d lt; some = h.no_empty k d lt } in
     let now : map (parse_line r.algo f) (raw_lines c) ≡ parsed_content r.algo c =
-    ap (λ (ls : List (List ℕ)). map (parse_line r.algo (form r.algo ls)) ls) (sym (strips-kept (raw_lines c) clean)) in
+    ap (λ (ls : List (List ℕ)). map (parse_line r.algo (form_of r.algo ls)) ls)
+    (sym (strips-kept (raw_lines c) clean)) in
     let only : (said : List ParsedLine) → ContentSaidOnce r.algo c said → said ≡ parsed_content r.algo c =
     λ said k. only_said r.algo f (raw_lines c) said all k ∙ now in
     let said : ContentSaidOnce r.algo c (parsed_content r.algo c) =
     subst (ContentSaidOnce r.algo c) now (each_said r.algo f (raw_lines c) all) in
     let names : All CleanName (all_verdicts r w c) =
-    subst (λ ps. All CleanName (verdicts r w 0 ps)) now (names_clean r f w 0 (raw_lines c) all) in (
-      λ other. (only other, λ is. subst (ContentSaidOnce r.algo c) (sym is) said),
-      λ other k. ap (verdicts r w 0) (only other k),
-      All-weaker CleanName (λ found. older_escape found.name ≡ escape found.name)
-          (λ found free. same_escape found.name free) (all_verdicts r w c) names,
-      same_escape labels.manifest h.own_name,
-    )
+    subst (λ ps. All CleanName (verdicts_of r w 0 ps)) now (names_clean r f w 0 (raw_lines c) all) in record {
+      lines = λ other. (only other, λ is. subst (ContentSaidOnce r.algo c) (sym is) said);
+      behavior = λ other k. ap (λ ps. older_behavior r labels c (verdicts_of r w 0 ps)) (only other k)
+          ∙ behavior_same r labels h.own_name c (all_verdicts r w c) names;
+      verdicts = λ other k. ap (verdicts_of r w 0) (only other k);
+    }
 
 -- to older versions an empty line said nothing but that it is improperly formatted
 only_bad : (algos : Algos) (f : Form) (said : ParsedLine) → SaidOnce algos f [] said → said ≡ bad

@@ -1,19 +1,23 @@
 -- `check_one`: a name is opened, read and closed, and in between other calls may open names.
 use Rattle.std.proofs.Common.{rules, refl, ◌≡◌, ◌∙◌, [], ◌∷◌, ◌++◌, ℕ, List, Ok, Err, None, Some, append_assoc}
 use Rattle.std.proofs.lemmas.List.{map-append, Elements.All-cons}
-use Rattle.sum_sources.{proofs.GaveLemmas.closed-seam, proofs.GaveLemmas.gave-seam, specs.declared.fault.Fault.Fault, specs.inputs.Input.Fits, specs.inputs.Input.IsSameInput, specs.inputs.Input.Content, specs.inputs.Input.InputState}
-use Rattle.sum_sources.specs.sources.Source.{Opening, ToldAnswers, opened_file, state_with_opening, state_after_closing, IsOpen, SourceState, times, result_at}
-use Rattle.sum_engine.{proofs.WorldLemmas.agrees_open, proofs.WorldLemmas.opening_agrees, proofs.WorldLemmas.asks_one, specs.Behavior.World, specs.Behavior.answer_to}
-use Rattle.sum_engine.specs.Execution.{Agrees, world_at, opened_names, AsksNames, IsAtEndIf, ReadsFile, ReadsToEndIf}
+use Rattle.sum_sources.{proofs.GaveLemmas.closed-seam, proofs.GaveLemmas.gave-seam, specs.declared.fault.Fault.Fault}
+use Rattle.sum_sources.{specs.inputs.Input.Fits, specs.inputs.Input.IsSameInput, specs.inputs.Input.Content}
+use Rattle.sum_sources.{specs.inputs.Input.InputState}
+use Rattle.sum_sources.specs.sources.Source.{Opening, ToldAnswers, opened_file, state_with_opening, state_after_closing}
+use Rattle.sum_sources.specs.sources.Source.{IsOpen, SourceState, times, result_at}
+use Rattle.sum_engine.{proofs.WorldLemmas.agrees_open, proofs.WorldLemmas.opening_agrees, proofs.WorldLemmas.asks_one}
+use Rattle.sum_engine.{specs.Behavior.World, specs.Behavior.answer_to}
+use Rattle.sum_engine.specs.Execution.{Agrees, world_at, opened_names, OpensNames, IsAtEndIf, ReadsFile, ReadsToEndIf}
 
 -- the name was opened; over the opening, some calls and the closing all was read as `ReadsToEndIf` says; and what was
 -- read of it fits its answer, in each world that agrees
 pub record WasOpened (Whole : Type 0) (a m b n : SourceState) (name : List ℕ) (t : InputState) : Type 0 where
-  pub asks : AsksNames a m (name ∷ [])
+  pub asks : OpensNames a m (name ∷ [])
   pub reads : ReadsToEndIf Whole a n
   pub gave : result_at n.openings name (times name (opened_names a)) ≡ Some (Ok t.reads)
   -- what the closing leaves as it is
-  pub asked : opened_names n ≡ opened_names b
+  pub opened : opened_names n ≡ opened_names b
   pub refusals : n.refusals ≡ b.refusals
   pub agrees : (w : World) → Agrees w n → Agrees w b
   pub answer : (w : World) → Agrees w n
@@ -35,7 +39,7 @@ was_opened {Whole} tells {a} {m} {b} {n} {name} {s} {t} is opens same read reads
     record {
       asks = asks_one a m name None opens;
       reads = search (rules, all, then);
-      asked = rw (then, now) (simp map-append);
+      opened = rw (then, now) (simp map-append);
       refusals = rw closes refl;
       agrees = λ w agrees. agrees_open before later closed agrees now then;
       gave = rw (then, gave-seam before later name (Some (Ok t.reads))) refl;

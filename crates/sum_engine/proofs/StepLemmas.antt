@@ -1,22 +1,41 @@
 -- One step of a checker, `Checker::step`: the next verdict was found, and its text was written.
-use Rattle.std.proofs.Common.{rules, ◌≡◌, ◌⊎◌, ◌<◌, ◌≤◌, ℕ, Bool, true, false, List, [], length, None, Some, Result, Ok, Err, inl, inr, refl, ap, ◌∙◌, arith}
-use Rattle.sum_sources.specs.{LineReader.remaining_content, declared.fault.Ending.Ending, declared.fault.Ending.TheVariants.Whole, declared.fault.Ending.TheVariants.Broken, inputs.Input.Content, inputs.Input.InputState, sources.Source.SourceState}
-use Rattle.sum_engine.proofs.{CountLemmas.counts_then-nil, ExecutionLemmas.step_performed, ExecutionLemmas.refused_first, ExecutionLemmas.one_at_most, RemainingLemmas.line_step, RemainingLemmas.behavior_by, RemainingLemmas.first_step}
-use Rattle.sum_engine.{proofs.RemainingLemmas.going-before, proofs.WorldLemmas.reads_weaker, specs.Behavior.World, specs.Execution.RefusesMemory}
-use Rattle.sum_engine.specs.{Execution.AsksNames, Streams.StopHasCause, Streams.none_or_one, Streams.BothOutputs, Streams.StreamsState, Streams.WritesAndReturns, check.Checker.remaining_behavior, check.Checker.CheckerValue, check.Checker.Progress}
-use Rattle.sum_engine.specs.check.{Checker.Going, Checker.Ended, Checker.IsStep, Checker.ReportsFound, Checker.TakesStep, Counts.good, Judge.LineVerdict, Judge.line_verdict_value, Report.err_of, Report.out_of, Rules.LabelsValue, Summary.end_text}
-use Rattle.sum_engine.specs.check.Verdicts.{CheckState, remaining_verdicts, VerdictsValue, state_at, HoldsInEachCheck, AdvancesVerdicts, AsksFor, VerdictResult, IsNextVerdict, IsNotUnread, HasNoVerdictLeft}
+use Rattle.std.proofs.Common.{rules, ◌≡◌, ◌⊎◌, ◌<◌, ℕ, Bool, true, false, List, [], length, None, Some, Result, Ok, Err}
+use Rattle.std.proofs.Common.{inl, inr, refl, ap, ◌∙◌, arith}
+use Rattle.sum_sources.specs.{LineReader.remaining_content, declared.fault.Ending.Ending}
+use Rattle.sum_sources.specs.{declared.fault.Ending.TheVariants.Whole, declared.fault.Ending.TheVariants.Broken}
+use Rattle.sum_sources.specs.{inputs.Input.Content, inputs.Input.InputState, sources.Source.SourceState}
+use Rattle.sum_engine.proofs.{CountLemmas.counts_then-nil, ExecutionLemmas.step_performed}
+use Rattle.sum_engine.proofs.{ExecutionLemmas.refused_first, RemainingLemmas.line_step, RemainingLemmas.behavior_by}
+use Rattle.sum_engine.proofs.{RemainingLemmas.first_step}
+use Rattle.sum_engine.{proofs.RemainingLemmas.going-before, proofs.WorldLemmas.reads_weaker, specs.Behavior.World}
+use Rattle.sum_engine.{specs.Execution.RefusesMemory}
+use Rattle.sum_engine.specs.{Execution.OpensNames, Streams.FailuresMatch, Streams.BothOutputs, Streams.StreamsState}
+use Rattle.sum_engine.specs.{Streams.WritesAndReturns, check.Checker.remaining_behavior, check.Checker.CheckerValue}
+use Rattle.sum_engine.specs.{check.Checker.Progress}
+use Rattle.sum_engine.specs.check.{Checker.Going, Checker.Ended, Checker.IsStep, Checker.ReportsFound}
+use Rattle.sum_engine.specs.check.{Checker.TakesStep, Counts.is_manifest_good, Judge.LineVerdict}
+use Rattle.sum_engine.specs.check.{Judge.line_verdict_value, Report.err_of, Report.out_of, Rules.LabelsValue}
+use Rattle.sum_engine.specs.check.{Summary.end_text}
+use Rattle.sum_engine.specs.check.Verdicts.{CheckState, remaining_verdicts, VerdictsValue, state_at, HoldsInEachCheck}
+use Rattle.sum_engine.specs.check.Verdicts.{AdvancesVerdicts, OpensFor, VerdictResult, IsNextVerdict, IsNotUnread}
+use Rattle.sum_engine.specs.check.Verdicts.{HasNoVerdictLeft}
 use Rattle.sum_settings.specs.declared.stop.Stop.{Stop, TheVariants.Memory}
 use Rattle.sum_sources.specs.declared.line_reader.LineStop.TheVariants as line_stops
 
 -- what follows from what holds of the states of a check holds of them, too
-InEachCheck-map : {I : Type 0} {state : I → InputState} {p q : VerdictsValue I} {a b : SourceState}
+pub InEachCheck-map : {I : Type 0} {state : I → InputState} {p q : VerdictsValue I} {a b : SourceState}
     {P R : CheckState → CheckState → Type 0} → HoldsInEachCheck state p q a b P
     → ((c : Content) (v w : World)
     → P (state_at p (remaining_content p.reader c) v) (state_at q (remaining_content q.reader c) w)
     → R (state_at p (remaining_content p.reader c) v) (state_at q (remaining_content q.reader c) w))
     → HoldsInEachCheck state p q a b R
-InEachCheck-map h f = search (f, h.holds)
+InEachCheck-map h f = record {
+  reads = λ reading. let r = h.reads reading in record {
+    reading = r.reading;
+    before = r.before;
+    holds = λ c of w agrees. f c _ _ (r.holds c of w agrees);
+  };
+}
 
 -- ---- a step, by the verdict that was found
 
@@ -27,7 +46,7 @@ module _ {I : Type 0} {state : I → InputState} {p q : VerdictsValue I} (a b : 
     -- the end was found, and its text was written, or a prefix of it
     step_end : (e : Ending) (outcome : Bool) {y : Result Progress Stop}
         → HoldsInEachCheck state p q a.inputs b.inputs (HasNoVerdictLeft p.rules e)
-        → AsksNames a.inputs b.inputs [] → q.rules ≡ p.rules → outcome ≡ good q.rules e q.counts
+        → OpensNames a.inputs b.inputs [] → q.rules ≡ p.rules → outcome ≡ is_manifest_good q.rules e q.counts
         → WritesAndReturns a.outputs b.outputs (end_text q.rules labels e q.counts) [] (Ended outcome) y
         → HoldsInEachCheck state p q a.inputs b.inputs (λ c d. IsStep p.rules labels vector c d a b y)
     step_end e outcome {y} found asked same sum wrote =
@@ -38,7 +57,7 @@ module _ {I : Type 0} {state : I → InputState} {p q : VerdictsValue I} (a b : 
         let k = remaining_content p.reader c in
         let did = step_performed (length k.bytes) y asked said in
         record {
-          step = record { names = []; err = end_text r labels e p.counts; out = []; remaining = length k.bytes };
+          step = record { names = []; err = end_text r labels e p.counts; out = []; manifest_left = length k.bytes };
           later = record { steps = []; good = outcome };
           is = ap (behavior_by r labels k.ending p.counts k) f.verdicts
               ∙ rw (counts_then-nil p.counts, f.ending, sum, same, f.counts) refl;
@@ -50,7 +69,8 @@ module _ {I : Type 0} {state : I → InputState} {p q : VerdictsValue I} (a b : 
 
     -- the next verdict was found, and then it was reported
     step_found : (x : VerdictResult) {y : Result Progress Stop}
-        → HoldsInEachCheck state p q a.inputs b.inputs (λ c d. IsNextVerdict p.rules vector c d x)
+        → HoldsInEachCheck state p q a.inputs b.inputs
+        (λ c d. IsNextVerdict p.rules vector (RefusesMemory a.inputs b.inputs) c d x)
         → AdvancesVerdicts state vector p q a.inputs b.inputs x
         → ReportsFound q labels vector x a.outputs b.outputs y
         → HoldsInEachCheck state p q a.inputs b.inputs (λ c d. IsStep p.rules labels vector c d a b y)
@@ -66,15 +86,15 @@ module _ {I : Type 0} {state : I → InputState} {p q : VerdictsValue I} (a b : 
           step = line_step p.rules labels (length k.bytes) j;
           later = remaining_behavior p.rules labels next;
           is = search (rules, f);
-          performs = rw (going-before p.rules labels next) (step_performed _ y did.asked said);
+          performs = rw (going-before p.rules labels next) (step_performed _ y did.opened said);
           going = λ is. (refl, f.1);
           failed = λ is. inr (refl, f.1);
           refused = λ is. absurd (rw is at said).writes;
         })
     -- no line was left; the end is written, and nothing remains
-    step_found (Ok None) found did reported = step_end Whole _ found did.asked did.rules refl reported
+    step_found (Ok None) found did reported = step_end Whole _ found did.opened did.rules refl reported
     step_found (Err (line_stops.Fault f)) found did reported =
-        step_end (Broken f) false found did.asked did.rules refl reported
+        step_end (Broken f) false found did.opened did.rules refl reported
     -- memory ran out before the verdict; nothing is written, and all remains
     step_found (Err line_stops.Memory) found did reported =
         rw reported.0 (InEachCheck-map found (λ c v w f.
@@ -84,8 +104,8 @@ module _ {I : Type 0} {state : I → InputState} {p q : VerdictsValue I} (a b : 
           step = first.0;
           later = first.1;
           is = first.2;
-          performs = refused_first first.0 [] refl reported.1 (elim did.asked [
-            | inl refused ↦ inl refused
+          performs = refused_first first.0 [] refl reported.1 (elim did.opened [
+            | inl refused ↦ inl (refused, rw first.5 (f.2 refused))
             | inr same ↦ inr (same.0, rw first.3 f.0)
           ]);
           going = λ h. cc;
@@ -94,12 +114,6 @@ module _ {I : Type 0} {state : I → InputState} {p q : VerdictsValue I} (a b : 
         }))
 
 -- ---- whatever the content and the world are
-
--- a text was written, or a prefix of it, and no memory was refused
-wrote_cause : {A : Type 0} {a b : StreamsState} {err out : List ℕ} {y : A} (x : Result A Stop) {allowed : List ℕ}
-    → b.inputs.refusals ≡ a.inputs.refusals → WritesAndReturns a.outputs b.outputs err out y x
-    → StopHasCause allowed a b x
-wrote_cause x same h = grind arith
 
 -- what follows from what was found and written
 module _ {I : Type 0} (q : VerdictsValue I) (labels : LabelsValue) (vector : List ℕ) where
@@ -116,27 +130,23 @@ module _ {I : Type 0} (q : VerdictsValue I) (labels : LabelsValue) (vector : Lis
 
   -- if memory runs out, neither output has changed; and memory was refused, or bytes were read ahead
   memory_found : (found : VerdictResult) (a b : StreamsState)
-      → AsksFor vector q.reader.ahead a.inputs b.inputs found
+      → OpensFor vector q.reader.ahead a.inputs b.inputs found
       → ReportsFound q labels vector found a.outputs b.outputs (Err Memory)
       → (b.outputs ≡ a.outputs) × (RefusesMemory a.inputs b.inputs
       ⊎ ((b.inputs ≡ a.inputs) × (0 < length q.reader.ahead)))
   memory_found found a b asked h = grind arith
 
-  -- a step stops only if memory was refused, at most once, or bytes remained, or one output failed
-  cause_found : (found : VerdictResult) (a b : StreamsState) {x : Result Progress Stop}
-      → AsksFor vector q.reader.ahead a.inputs b.inputs found
-      → ReportsFound q labels vector found a.outputs b.outputs x → StopHasCause none_or_one a b x
-  cause_found (Err line_stops.Memory) a b asked h = rw h.0
-      (record { refusals = one_at_most a.inputs b.inputs asked; failures = rw h.1 refl })
-  cause_found (Ok None) a b asked h = wrote_cause _ asked.refusals h
-  cause_found found a b asked h = wrote_cause _ asked.refusals h
+  -- a write fault comes with one more failure, of one output
+  failures_found : (found : VerdictResult) (a b : BothOutputs) (x : Result Progress Stop)
+      → ReportsFound q labels vector found a b x → FailuresMatch a b x
+  failures_found found a b x h = grind arith
 
 -- ---- what a step promises
 
 module _ {I : Type 0} {state : I → InputState} {p q : CheckerValue I} {a b : StreamsState} {vector : List ℕ}
     (found : VerdictResult) {x : Result Progress Stop} (labels : q.labels ≡ p.labels)
     (verdict : HoldsInEachCheck state p.verdicts q.verdicts a.inputs b.inputs
-    (λ c d. IsNextVerdict p.verdicts.rules vector c d found))
+    (λ c d. IsNextVerdict p.verdicts.rules vector (RefusesMemory a.inputs b.inputs) c d found))
     (did : AdvancesVerdicts state vector p.verdicts q.verdicts a.inputs b.inputs found)
     (wrote : ReportsFound q.verdicts p.labels vector found a.outputs b.outputs x)
   where
@@ -151,11 +161,11 @@ module _ {I : Type 0} {state : I → InputState} {p q : CheckerValue I} {a b : S
           found = found;
           advances = did;
           reports = wrote;
-          cause = cause_found q.verdicts p.labels vector found a b did.asked wrote;
-          memory = λ no. memory_found q.verdicts p.labels vector found a b did.asked (rw no at wrote);
+          failures = failures_found q.verdicts p.labels vector found a.outputs b.outputs x wrote;
+          memory = λ no. memory_found q.verdicts p.labels vector found a b did.opened (rw no at wrote);
           lines = λ going.
               let (v, is) = going_found q.verdicts p.labels vector found a.outputs b.outputs (rw going at wrote) in
-              did.number v is;
+              rw (rw is at did.found) at did.reader.lines;
           reads = reads_weaker not_unread did.reads;
           good = λ good. good_found q.verdicts p.labels vector found a.outputs b.outputs (rw good at wrote);
         }

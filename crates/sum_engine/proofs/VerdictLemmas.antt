@@ -1,6 +1,7 @@
 -- `judge`: the verdict of an entry, by what hashing its name gave.
 use Rattle.std.proofs.Common.{arith, ◌≡◌, List, ℕ, Bool, false, Result, IfOk}
-use Rattle.sum_engine.{proofs.HashLemmas.IsNotBroken, specs.check.Judge.Verdict, specs.check.Judge.is_unread, specs.private.Judge.verdict_of_hash}
+use Rattle.sum_engine.{proofs.HashLemmas.IsNotBroken, specs.check.Judge.Verdict, specs.check.Judge.is_unread}
+use Rattle.sum_engine.{specs.private.Judge.verdict_of_hash}
 use Rattle.sum_sources.specs.declared.sources.hash_file.HashFault.{HashFault}
 use Rattle.sum_settings.specs.declared.stop.NoRoom.{NoRoom}
 

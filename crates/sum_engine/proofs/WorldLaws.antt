@@ -1,7 +1,9 @@
 -- The law that some world agrees with what was read and what is told: by the law of sources.
 use Rattle.std.proofs.Common.{arith, ◌≡◌, [], Option, None, Some, Result, Ok, Err, IfSome, refl}
-use Rattle.sum_sources.specs.{declared.fault.Fault.Fault, declared.fault.Fault.TheVariants.NotFound, inputs.Input.Reads, inputs.InputLaws.some_content}
-use Rattle.sum_sources.specs.sources.Source.{Answers, ToldAnswers, TellsAll, result_at, FitsAnswer, GivesTold, AnswerValue, SourceState}
+use Rattle.sum_sources.specs.{declared.fault.Fault.Fault, declared.fault.Fault.TheVariants.NotFound, inputs.Input.Reads}
+use Rattle.sum_sources.specs.{inputs.InputLaws.some_content}
+use Rattle.sum_sources.specs.sources.Source.{Answers, ToldAnswers, TellsAll, result_at, FitsAnswer, GivesTold}
+use Rattle.sum_sources.specs.sources.Source.{AnswerValue, SourceState}
 use Rattle.sum_engine.specs.{Execution.Agrees, Laws.ToldAgree}
 
 -- an answer that gave this
@@ -35,7 +37,8 @@ told_agree tells a gives = (
     agrees told gave fits = grind (arith, is_given gave)
 
     -- it has the answer that is told
-    is_told : (told : Option AnswerValue) (gave : Option (Result Reads Fault)) → IfSome told (λ t. told_or told gave ≡ t)
+    is_told : (told : Option AnswerValue) (gave : Option (Result Reads Fault)) → IfSome told
+        (λ t. told_or told gave ≡ t)
     is_told told gave = grind arith
 
 -- answers that are all told are a world that agrees

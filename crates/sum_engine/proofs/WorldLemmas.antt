@@ -1,25 +1,31 @@
 -- Names opened one after another, and the worlds that agree with one call after another.
-use Rattle.std.proofs.Common.{rules, ◌≡◌, ap, refl, ℕ, zero, suc, List, [], ◌∷◌, ◌++◌, Option, None, Some, Result, IfSome, IfOk, append_assoc, append-nil, bytes_eq}
+use Rattle.std.proofs.Common.{rules, ◌≡◌, ap, refl, ℕ, zero, suc, List, [], ◌∷◌, ◌++◌, Option, None, Some, Result}
+use Rattle.std.proofs.Common.{IfSome, IfOk, append_assoc, append-nil, bytes_eq}
 use Rattle.std.proofs.lemmas.List.Elements.{All-nil, All-cons, All-append, All-weaker}
-use Rattle.std.{proofs.lemmas.List.map-append, proofs.lemmas.Result.IfOk-weaker, specs.Option.option_flatten, specs.Prelude.slice_get}
-use Rattle.sum_sources.{proofs.GaveLemmas.true_or_false, proofs.GaveLemmas.gave-append, proofs.GaveLemmas.gave-seam, specs.declared.fault.Fault.Fault, specs.inputs.Input.Reads}
-use Rattle.sum_sources.specs.sources.Source.{Opening, FitsAnswer, state_with_opening, results_of, names_of, times, SourceState}
-use Rattle.sum_engine.specs.{Behavior.World, Behavior.world_after, Execution.AsksNames, Execution.Agrees, Execution.world_at, Execution.IsAtEndIf, Execution.ReadsFile, Execution.ReadsToEndIf}
+use Rattle.std.{proofs.lemmas.List.map-append, proofs.lemmas.Result.IfOk-weaker, specs.Option.option_flatten}
+use Rattle.std.{specs.Prelude.slice_get}
+use Rattle.sum_sources.{proofs.GaveLemmas.true_or_false, proofs.GaveLemmas.gave-append, proofs.GaveLemmas.gave-seam}
+use Rattle.sum_sources.{specs.declared.fault.Fault.Fault, specs.inputs.Input.Reads}
+use Rattle.sum_sources.specs.sources.Source.{Opening, FitsAnswer, state_with_opening, results_of, names_of, times}
+use Rattle.sum_sources.specs.sources.Source.{SourceState}
+use Rattle.sum_engine.specs.{Behavior.World, Behavior.world_after, Execution.OpensNames, Execution.Agrees}
+use Rattle.sum_engine.specs.{Execution.world_at, Execution.IsAtEndIf, Execution.ReadsFile, Execution.ReadsToEndIf}
 
 -- ---- names asked
 
 -- no name was opened
-pub asks_none : (a : SourceState) → AsksNames a a []
+pub asks_none : (a : SourceState) → OpensNames a a []
 asks_none a = search (rules, append-nil)
 
 -- some names were opened, and then others
-pub asks_then : {a b c : SourceState} {names more : List (List ℕ)} → AsksNames a b names → AsksNames b c more
-    → AsksNames a c (names ++ more)
+pub asks_then : {a b c : SourceState} {names more : List (List ℕ)} → OpensNames a b names → OpensNames b c more
+    → OpensNames a c (names ++ more)
 asks_then h k = search (rules, append_assoc)
 
 -- one name was opened
-pub asks_one : (a b : SourceState) (name : List ℕ) (gave : Option (Result Reads Fault)) → b ≡ state_with_opening a name gave
-    → AsksNames a b (name ∷ [])
+pub asks_one : (a b : SourceState) (name : List ℕ) (gave : Option (Result Reads Fault)) → b
+    ≡ state_with_opening a name gave
+    → OpensNames a b (name ∷ [])
 asks_one a b name gave is = search (rules, map-append)
 
 -- ---- what was read
@@ -54,9 +60,9 @@ reads_one {Whole} a b name gave is read =
 -- ---- worlds
 
 -- the world after a call is the one after the names that the call opened
-pub world_at_after : (w : World) (a b : SourceState) (names : List (List ℕ)) → AsksNames a b names
+pub world_at_after : (w : World) (a b : SourceState) (names : List (List ℕ)) → OpensNames a b names
     → world_at w b ≡ world_after (world_at w a) names
-world_at_after w a b names asks = ap (λ opened. record w { opened = opened }) asks.asked
+world_at_after w a b names asks = ap (λ opened. record w { opened = opened }) asks.opened
 
 -- what the openings of a name gave
 abbrev Gave : Type 0
@@ -97,7 +103,8 @@ agrees_open {w} {b} {c} before later o h was is = record {
   gave = λ name k.
       let here = rw (is, gave-append before (o ∷ later) name) at (h.gave name k) in
       rw (was, gave-append before (record o { gave = None } ∷ later) name) (true_or_false (bytes_eq o.name name)
-      (λ same. rw same (gave-open (FitsAnswer (w.answer name k)) (results_of before name) (results_of later name) o.gave k
+      (λ same. rw same (gave-open (FitsAnswer (w.answer name k)) (results_of before name)
+      (results_of later name) o.gave k
       (rw same at here)))
       (λ apart. rw apart (rw apart at here)));
 }

@@ -1,8 +1,10 @@
 -- What a call can open in its source, and what it does: a list of steps, between which memory may run out.
 use Rattle.std.specs.Prelude.{ℕ, ◌&&◌, Bool, List, [], ◌∷◌, ◌++◌, map, flat_map, Result, Ok, Err}
-use Rattle.digest_kinds.specs.{Bytes.ByteString, Kind.KindValue, Kind.digest}
+use Rattle.digest_kinds.specs.{Bytes.ByteString, Kind.KindValue, Kind.message_digest}
 use Rattle.sum_lines.specs.sinks.Output.{OutputEvent, output_events}
-use Rattle.sum_sources.specs.{declared.fault.Ending.Ending, declared.fault.Ending.TheVariants.Whole, declared.fault.Ending.TheVariants.Broken, declared.fault.Fault.Fault, inputs.Input.clip, sources.Source.AnswerValue, sources.Source.times}
+use Rattle.sum_sources.specs.{declared.fault.Ending.Ending, declared.fault.Ending.TheVariants.Whole}
+use Rattle.sum_sources.specs.{declared.fault.Ending.TheVariants.Broken, declared.fault.Fault.Fault, inputs.Input.clip}
+use Rattle.sum_sources.specs.{sources.Source.AnswerValue, sources.Source.times}
 
 -- a world: what the outside may be. A file may change between two openings of it
 pub record World : Type 0 where
@@ -19,7 +21,7 @@ world_after world names = record world { opened = world.opened ++ names }
 
 -- the digest of bytes with this ending: of all of them, or in its place the fault that broke them
 abbrev pub digest_by_ending : KindValue → ByteString → Ending → Result ByteString Fault
-digest_by_ending kind bytes Whole = Ok (digest kind bytes)
+digest_by_ending kind bytes Whole = Ok (message_digest kind bytes)
 digest_by_ending kind bytes (Broken fault) = Err fault
 
 -- the digest of an answer, or in its place the fault of opening or reading it
@@ -37,7 +39,7 @@ pub record Step : Type 0 where
   pub names : List ByteString
   pub err : ByteString  -- a text to standard error
   pub out : ByteString  -- a text to standard output
-  pub remaining : ℕ  -- how many bytes of a manifest remain before it: those of its own line, if any, and later ones
+  pub manifest_left : ℕ  -- how many bytes of a manifest remain before it: those of its own line, if any, and later ones
 
 -- a behavior: a list of steps, and whether all is good
 pub record Behavior : Type 0 where
@@ -60,7 +62,7 @@ behavior_then first second = record { steps = first.steps ++ second.steps; good 
 -- a behavior of one step, which opens these names, and writes a text to standard error and one to standard output
 abbrev pub single_step : List ByteString → ByteString → ByteString → Bool → Behavior
 single_step names err out good =
-    record { steps = record { names = names; err = err; out = out; remaining = 0 } ∷ []; good = good }
+    record { steps = record { names = names; err = err; out = out; manifest_left = 0 } ∷ []; good = good }
 
 -- a behavior's text on standard output
 abbrev pub out_text : Behavior → ByteString
@@ -71,5 +73,5 @@ abbrev pub err_text : Behavior → ByteString
 err_text behavior = flat_map (λ step. step.err) behavior.steps
 
 -- the names that a behavior opens, in their order
-abbrev pub asks : Behavior → List ByteString
-asks behavior = flat_map (λ step. step.names) behavior.steps
+abbrev pub names_in : Behavior → List ByteString
+names_in behavior = flat_map (λ step. step.names) behavior.steps

@@ -1,11 +1,15 @@
 -- What a call reads, and what it performs of a behavior: the form of the headline.
-use Rattle.std.specs.Prelude.{ℕ, ◌≡◌, ◌≢◌, ◌+◌, ◌<◌, ◌⊎◌, Bool, List, ◌∷◌, ◌++◌, filter_map, All, Some, IfSome, Result, Option, None, Ok, Err, IfOk}
+use Rattle.std.specs.Prelude.{ℕ, ◌≡◌, ◌≢◌, ◌+◌, ◌<◌, ◌⊎◌, Bool, List, [], ◌∷◌, ◌++◌, filter_map, All, Some, IfSome}
+use Rattle.std.specs.Prelude.{Result, Option, None, Ok, Err, IfOk}
 use Rattle.digest_kinds.specs.Bytes.{ByteString}
 use Rattle.sum_settings.specs.declared.stop.Stop.{Stop, TheVariants.Memory, TheVariants.Write}
 use Rattle.sum_lines.specs.sinks.Output.{Gets, OutputEvent}
-use Rattle.sum_sources.specs.{declared.fault.Ending.TheVariants.Whole, declared.fault.Fault.Fault, declared.inputs.input.Phase.TheVariants.Ended, declared.inputs.input.Phase.TheVariants.Past, inputs.Input.Reads}
+use Rattle.sum_sources.specs.{declared.fault.Ending.TheVariants.Whole, declared.fault.Fault.Fault}
+use Rattle.sum_sources.specs.{declared.inputs.input.Phase.TheVariants.Ended}
+use Rattle.sum_sources.specs.{declared.inputs.input.Phase.TheVariants.Past, inputs.Input.Reads}
 use Rattle.sum_sources.specs.sources.Source.{SourceState, Opening, FitsAnswer, names_of, result_at}
-use Rattle.sum_engine.specs.{Behavior.World, Behavior.Event, Behavior.open_name, Behavior.to_err, Behavior.to_out, Behavior.Step, Behavior.Behavior, Behavior.trace, Streams.StreamsState}
+use Rattle.sum_engine.specs.{Behavior.World, Behavior.Event, Behavior.open_name, Behavior.to_err, Behavior.to_out}
+use Rattle.sum_engine.specs.{Behavior.Step, Behavior.Behavior, Behavior.trace, Streams.StreamsState}
 
 -- ---- what was read
 
@@ -37,8 +41,8 @@ pub record ReadsToEndIf (Wanted : Type 0) (before after : SourceState) : Type 0 
 -- ---- what happened
 
 -- these names were opened, and the source wasn't refused memory
-pub record AsksNames (before after : SourceState) (names : List ByteString) : Type 0 where
-  pub asked : opened_names after ≡ opened_names before ++ names
+pub record OpensNames (before after : SourceState) (names : List ByteString) : Type 0 where
+  pub opened : opened_names after ≡ opened_names before ++ names
   pub refusals : after.refusals ≡ before.refusals
 
 -- the source was refused memory, and nothing else happened
@@ -62,7 +66,7 @@ out_event event = None
 
 -- these events happened: the names were opened, and each output was offered its pieces and wrote its bytes
 pub record Happened (before after : StreamsState) (events : List Event) : Type 0 where
-  pub inputs : AsksNames before.inputs after.inputs (filter_map opened_name events)
+  pub inputs : OpensNames before.inputs after.inputs (filter_map opened_name events)
   pub err : Gets before.outputs.err after.outputs.err (filter_map err_event events)
   pub out : Gets before.outputs.out after.outputs.out (filter_map out_event events)
 
@@ -70,15 +74,15 @@ pub record Happened (before after : StreamsState) (events : List Event) : Type 0
 abbrev pub streams_with_refusals : ℕ → StreamsState → StreamsState
 streams_with_refusals n state = record state { inputs = record state.inputs { refusals = n } }
 
--- memory ran out: exactly the steps before the next one happened, and the source was refused memory, or bytes remained
+-- memory ran out before the next step: the source was refused memory for its name, or bytes of a manifest remained
 pub record RunsOutOfMemory (steps : List Step) (before after : StreamsState) : Type 0 where
   pub done : List Step
   pub next : Step
   pub later : List Step
   pub are : steps ≡ done ++ next ∷ later
   pub happened : Happened before (streams_with_refusals before.inputs.refusals after) (trace done)
-  pub cause : (after.inputs.refusals ≡ before.inputs.refusals + 1)
-      ⊎ ((after.inputs.refusals ≡ before.inputs.refusals) × (0 < next.remaining))
+  pub cause : ((after.inputs.refusals ≡ before.inputs.refusals + 1) × (next.names ≢ []))
+      ⊎ ((after.inputs.refusals ≡ before.inputs.refusals) × (0 < next.manifest_left))
 
 -- THE HEADLINE, for a call that is to return this outcome: the call returns it, and the whole trace happened; or a
 -- write failed after a prefix of the trace; or memory ran out at a step, and exactly the steps before it happened

@@ -6,4 +6,3 @@ pub mod Generate
 pub mod check
 pub mod private
 pub mod Laws
-pub mod OldVerdicts

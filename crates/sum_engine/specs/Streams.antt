@@ -1,5 +1,5 @@
--- What a contract sees of the streams: their state, the cause of a stop, and what an output is given.
-use Rattle.std.specs.Prelude.{ℕ, ◌≡◌, ◌+◌, ◌⊎◌, List, [], ◌∷◌, Any, Result, Ok, Err}
+-- What a contract sees of the streams: their state, and the failures of outputs.
+use Rattle.std.specs.Prelude.{ℕ, ◌≡◌, ◌+◌, ◌⊎◌, Result, Ok, Err}
 use Rattle.digest_kinds.specs.Bytes.{ByteString}
 use Rattle.sum_lines.specs.sinks.Output.{OutputState, output_events, Gets, GetsPrefix}
 use Rattle.sum_settings.specs.declared.stop.Stop.{Stop, TheVariants.Memory, TheVariants.Write}
@@ -15,32 +15,17 @@ pub record StreamsState : Type 0 where
   pub inputs : SourceState
   pub outputs : BothOutputs
 
--- ---- the cause of a stop
+-- ---- the cause of a write fault
 
 -- how often a call of standard output failed, and how often one of standard error
-abbrev pub failures : BothOutputs → ℕ × ℕ
-failures outputs = (outputs.out.failures, outputs.err.failures)
+abbrev pub failures_of : BothOutputs → ℕ × ℕ
+failures_of outputs = (outputs.out.failures, outputs.err.failures)
 
 -- a write fault comes with one more failure, of one output, and any other result with none
 abbrev pub FailuresMatch : {A : Type 0} → BothOutputs → BothOutputs → Result A Stop → Type 0
-FailuresMatch before after (Err Write) = (failures after ≡ ((failures before).0 + 1, (failures before).1))
-    ⊎ (failures after ≡ ((failures before).0, (failures before).1 + 1))
-FailuresMatch before after result = failures after ≡ failures before
-
--- at most one
-abbrev pub none_or_one : List ℕ
-none_or_one = 0 ∷ 1 ∷ []
-
--- out of memory comes with as many refusals of the source as one of these numbers says, and any other result with none
-abbrev pub RefusalsMatch : {A : Type 0} → List ℕ → SourceState → SourceState → Result A Stop → Type 0
-RefusalsMatch allowed before after (Err Memory) = Any (λ n. after.refusals ≡ before.refusals + n) allowed
-RefusalsMatch allowed before after result = after.refusals ≡ before.refusals
-
--- a stop has its cause
-pub record StopHasCause {A : Type 0} (allowed : List ℕ) (before after : StreamsState) (result : Result A Stop)
-    : Type 0 where
-  pub refusals : RefusalsMatch allowed before.inputs after.inputs result
-  pub failures : FailuresMatch before.outputs after.outputs result
+FailuresMatch before after (Err Write) = (failures_of after ≡ ((failures_of before).0 + 1, (failures_of before).1))
+    ⊎ (failures_of after ≡ ((failures_of before).0, (failures_of before).1 + 1))
+FailuresMatch before after result = failures_of after ≡ failures_of before
 
 -- ---- what is written
 

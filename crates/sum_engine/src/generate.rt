@@ -1,7 +1,7 @@
 //! Hashing one name, and writing its line.
-ghost use Rattle.std.specs.Prelude.{◌≡◌, [], ◌∷◌, true, Ok};
+ghost use Rattle.std.specs.Prelude.{◌≡◌, true, Ok};
 ghost use Rattle.sum_engine.specs.Execution.{Performs, ReadsToEndIf};
-ghost use Rattle.sum_engine.specs.{Generate.generate_behavior, Streams.StopHasCause, private.Generate.fault_in};
+ghost use Rattle.sum_engine.specs.{Generate.generate_behavior, Streams.FailuresMatch, private.Generate.fault_in};
 
 use crate::streams::Streams;
 use crate::tool_lines::NameFaultLine;
@@ -26,8 +26,8 @@ pub fn generate_one<S: Source, O: Sink, E: Sink>(
         streams.old streams.new result }
     // Returns true only if the file was read to its end; whatever is returned, it was read no further.
     ensures reads { ReadsToEndIf (result ≡ Ok true) streams.old.inputs streams.new.inputs }
-    // A stop has its cause: one more refusal of the source, or one more failure of one output.
-    ensures cause { StopHasCause (1 ∷ []) streams.old streams.new result }
+    // A write fault comes with one more failure, of one output.
+    ensures failures { FailuresMatch streams.old.outputs streams.new.outputs result }
 {
     match streams.inputs.hash_file(settings.kind, name) {
         Ok(digest) => {

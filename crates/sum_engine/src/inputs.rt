@@ -5,7 +5,7 @@ ghost use Rattle.sum_sources.specs.sources.Source.{IsOpen, state_after_closing, 
 
 use digest_kinds::{AnyHasher, Digest, Kind};
 use std::marker::{Model, PhantomData};
-use sum_sources::{HashFault, OpenFault, PIECE, Source, hash_file_over};
+use sum_sources::{HashFault, OpenFault, PIECE, Source, hash_file_with_buffer};
 
 /// A source, and what its files are read into.
 #[derive(Debug, Drop)]
@@ -29,7 +29,7 @@ impl<S: Source> Model for Inputs<S> {
 impl<S: Source> Inputs<S> {
     /// Creates the inputs of this source.
     pub fn new(source: S) -> Self
-        ensures { result ≡ S.state source }
+        ensures state { result ≡ S.state source }
     {
         Inputs {
             source,
@@ -60,7 +60,7 @@ impl<S: Source> Inputs<S> {
         ensures hashed { HashesFile kind name.now self.old self.new result }
         ensures len { IfOk result (λ d. length d ≡ kind.len) }
     {
-        hash_file_over(
+        hash_file_with_buffer(
             &mut self.source,
             name,
             AnyHasher::new(kind),

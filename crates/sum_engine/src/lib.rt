@@ -1,6 +1,6 @@
-//! Hashes files, and checks files against manifests: this crate defines what one name or one manifest means and writes,
-//! and has nothing about command lines. It may call `digest_kinds`, `sum_lines` and `sum_sources`.
+//! Hashes files, and checks files against manifests.
 //!
+//! What one name or one manifest means, and what is written about it, belongs here, but nothing about command lines.
 //! [`Verdicts`] writes nothing: it is for a program that shows what it finds in its own way.
 //!
 //! ```rust

@@ -30,7 +30,7 @@ impl<O: Sink, E: Sink> Outputs<O, E> {
     /// the text was then written. For the crates above.
     #[doc(hidden)]
     pub fn write_err<X: Text, T: Drop>(&mut self, text: &X, outcome: T) -> Result<T, Stop>
-        ensures { WritesAndReturns self.old self.new (X.text text.now) [] outcome result }
+        ensures text { WritesAndReturns self.old self.new (X.text text.now) [] outcome result }
     {
         self.err.write(text)?;
         Ok(outcome)
@@ -39,7 +39,7 @@ impl<O: Sink, E: Sink> Outputs<O, E> {
     /// Writes a text to standard output, and then returns `outcome`, as [`Outputs::write_err`] does.
     #[doc(hidden)]
     pub fn write_out<X: Text, T: Drop>(&mut self, text: &X, outcome: T) -> Result<T, Stop>
-        ensures { WritesAndReturns self.old self.new [] (X.text text.now) outcome result }
+        ensures text { WritesAndReturns self.old self.new [] (X.text text.now) outcome result }
     {
         self.out.write(text)?;
         Ok(outcome)

@@ -1,1 +1,3 @@
 pub mod DashLemmas
+pub mod EndLemmas
+pub mod CountingLemmas

@@ -1,8 +1,9 @@
 //! Tests of `sum_engine`: each call with its answer, memory that is refused, files that go on after an end or a fault,
-//! and what follows from its laws.
+//! and callers that show one clause.
 #![tactic(auto)]
 
 pub mod consequences;
+pub mod counting;
 #[cfg(test)]
 mod generating;
 #[cfg(test)]

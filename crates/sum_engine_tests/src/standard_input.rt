@@ -11,18 +11,16 @@ use sum_lines::Sink;
 use sum_sources::laws::stdin_is_taken;
 use sum_sources::{Input, Source, WithStdin};
 
-/// Hashes a name, and returns the source. The name `-` takes standard input, unless the call stops. Any other name
-/// leaves it as it was, even if the call stops.
+/// Hashes a name, and returns the source. A name other than `-` leaves standard input as it was, even if the call
+/// stops.
 pub fn hash_with_stdin<'a, I: Input + Drop, S: Source, O: Sink, E: Sink>(
     settings: &Settings,
     tool: &str,
     name: &[u8],
     streams: &'a mut Streams<WithStdin<I, S>, O, E>,
 ) -> (Result<bool, Stop>, &'a WithStdin<I, S>)
-    ensures dash { IsTrue (is_dash name.now)
-        → OnOk result.0 (is_untaken (stdin_in result.1.now) ≡ false) }
     // The state of inputs shows only openings: it was untaken before if and only if `-` hadn't been opened.
-    ensures others { is_dash name.now ≡ false → is_untaken (stdin_in result.1.now)
+    ensures { is_dash name.now ≡ false → is_untaken (stdin_in result.1.now)
         ≡ (times (codes "-") (opened_names streams.old.inputs) == 0) }
 {
     let result = generate_one(settings, tool, name, streams);

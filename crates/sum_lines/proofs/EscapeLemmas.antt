@@ -1,12 +1,21 @@
 -- The escape of a list of bytes, cut at its first special byte: a backslash, a newline or a carriage return. What is
 -- escaped can be read back: both the definition and the code find the name. After that, the raw name in a line.
 use Rattle.std.proofs.Common.{◌≡◌, ℕ, zero, suc, ◌+◌, ◌-◌, ◌<◌, ◌≤◌, true, not, List, []}
-use Rattle.std.proofs.Common.{◌∷◌, ◌++◌, length, take, drop, get_or, Option, None, Some, MatchOption, refl, ap, sym, ◌∙◌, arith, is_some, length-append, length-drop, ◌↔◌, ◌==◌, Bool, false, cond, ◌≢◌, append_assoc, All, nat_lt, rules, slice_range}
-use Rattle.std.proofs.lemmas.{Slice.Eq.bytes_eq-Decides, Grind.flat_map-append, Grind.common_steps, Option.cond_some, List.length-take-le, List.append-nil, List.append_cancel_left, List.drop-drop, List.drop-take, List.take-append-drop}
-use Rattle.std.{proofs.lemmas.List.Folds.list_all_at, proofs.lemmas.Bool.false_from_ne_true, specs.Option.is_some, proofs.Math.Seq.take-length, proofs.Math.Seq.take-append-add, proofs.lemmas.List.Sums.list_all-from_AllPass, specs.List.list_all}
+use Rattle.std.proofs.Common.{◌∷◌, ◌++◌, length, take, drop, get_or, Option, None, Some, MatchOption, refl, ap, sym}
+use Rattle.std.proofs.Common.{◌∙◌, arith, is_some, length-append, length-drop, ◌↔◌, ◌==◌, Bool, false, cond, ◌≢◌}
+use Rattle.std.proofs.Common.{append_assoc, All, nat_lt, rules, slice_range}
+use Rattle.std.proofs.lemmas.{Slice.Eq.bytes_eq-Decides, Grind.flat_map-append, Grind.common_steps, Option.cond_some}
+use Rattle.std.proofs.lemmas.{List.length-take-le, List.append-nil, List.append_cancel_left, List.drop-drop}
+use Rattle.std.proofs.lemmas.{List.drop-take, List.take-append-drop}
+use Rattle.std.{proofs.lemmas.List.Folds.list_all_at, proofs.lemmas.Bool.false_from_ne_true, specs.Option.is_some}
+use Rattle.std.{proofs.Math.Seq.take-length, proofs.Math.Seq.take-append-add}
+use Rattle.std.{proofs.lemmas.List.Sums.list_all-from_AllPass, specs.List.list_all}
 use Rattle.memchr.specs.Find.{Nowhere, Passes, IsFirstByte, is_byte3, is_byte}
-use Rattle.sum_lines.specs.grammar.{ParsedLines.unescaped_bytes, ParsedLines.unescape, ParsedLines.entry_of_parts, ParsedLines.parts_with_raw_name, Entries.EntryValue, Form.Standard, Form.begins_standard, LineParts.LinePartsValue}
-use Rattle.sum_lines.specs.{declared.reading.line_parts.LineParts.LineParts, private.Beginnings.line_parts, Escape.escape, Escape.escape_of, Escape.escape_differs}
+use Rattle.sum_lines.specs.grammar.{ParsedLines.unescaped_bytes, ParsedLines.unescape, ParsedLines.entry_of_parts}
+use Rattle.sum_lines.specs.grammar.{ParsedLines.parts_with_raw_name, Entries.EntryValue, Form.Standard}
+use Rattle.sum_lines.specs.grammar.{Form.begins_standard, LineParts.LinePartsValue}
+use Rattle.sum_lines.specs.{declared.reading.line_parts.LineParts.LineParts, private.Beginnings.line_parts}
+use Rattle.sum_lines.specs.{Escape.escape, Escape.escape_of, Escape.escape_differs}
 use Rattle.digest_kinds.proofs.PrefixLemmas.{bind_some}
 
 -- what precedes the first special byte is its own escape

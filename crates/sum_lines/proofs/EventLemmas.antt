@@ -1,8 +1,13 @@
 -- The pieces of a text, the events of these, and what happened of them.
-use Rattle.std.proofs.Common.{ℕ, zero, suc, ◌≡◌, ◌<◌, ◌≤◌, ◌+◌, ◌*◌, ◌/◌, ◌%◌, List, [], ◌∷◌, ◌++◌, length, drop, flat_map, filter_map, refl, sym, ap, append_assoc, append-nil, length-append, length-drop, take_all, arith}
-use Rattle.std.proofs.lemmas.{Grind.common_steps, List.take-append-le, List.drop-append-le, List.Concat.flat_map-append, List.Elements.filter_map-append}
+use Rattle.sum_lines.specs.declared.sinks.buffered.TheConstants.{CAPACITY}
+use Rattle.std.proofs.Common.{ℕ, zero, suc, ◌≡◌, ◌<◌, ◌≤◌, ◌+◌, ◌-◌, ◌*◌, ◌/◌, ◌%◌, List, [], ◌∷◌, ◌++◌, length, drop}
+use Rattle.std.proofs.Common.{flat_map, filter_map, refl, sym, ap, append_assoc, append-nil, length-append, length-drop}
+use Rattle.std.proofs.Common.{take_all, arith}
+use Rattle.std.proofs.lemmas.{Grind.common_steps, List.take-append-le, List.drop-append-le, List.Concat.flat_map-append}
+use Rattle.std.proofs.lemmas.{List.Elements.filter_map-append}
 use Rattle.std.specs.{List.concat, Simd.first_chunks}
-use Rattle.sum_lines.specs.sinks.Output.{OutputState, OutputEvent, offer_piece, write_byte, written_byte, pieces, byte_events, output_events, OffersEach, Gets, GetsPrefix}
+use Rattle.sum_lines.specs.sinks.Output.{OutputState, OutputEvent, offer_piece, write_byte, written_byte, pieces_of}
+use Rattle.sum_lines.specs.sinks.Output.{byte_events, output_events, OffersEach, Gets, GetsPrefix}
 
 -- ---- the pieces of a text
 
@@ -18,20 +23,20 @@ first_chunks-append n (suc k) j xs ys size =
     rw next (grind (arith, take-append-le, drop-append-le))
 
 -- the pieces of a text that begins with full pieces
-pieces-append : (xs ys : List ℕ) → length xs % 8192 ≡ 0 → pieces (xs ++ ys) ≡ pieces xs ++ pieces ys
+pieces-append : (xs ys : List ℕ) → length xs % CAPACITY ≡ 0 → pieces_of (xs ++ ys) ≡ pieces_of xs ++ pieces_of ys
 pieces-append xs ys full =
-    let k = length xs / 8192 in
-    let size : length xs ≡ k * 8192 = omega arith in
-    let own : (length xs + 8191) / 8192 ≡ k = omega arith in
-    let both : (length (xs ++ ys) + 8191) / 8192 ≡ k + (length ys + 8191) / 8192 =
+    let k = length xs / CAPACITY in
+    let size : length xs ≡ k * CAPACITY = omega arith in
+    let own : (length xs + (CAPACITY - 1)) / CAPACITY ≡ k = omega arith in
+    let both : (length (xs ++ ys) + (CAPACITY - 1)) / CAPACITY ≡ k + (length ys + (CAPACITY - 1)) / CAPACITY =
     omega (arith, length-append xs ys) in
-    rw (own, both) (first_chunks-append 8192 k ((length ys + 8191) / 8192) xs ys size)
+    rw (own, both) (first_chunks-append CAPACITY k ((length ys + (CAPACITY - 1)) / CAPACITY) xs ys size)
 
 -- a text that fits a piece is one
-pub one_piece : (xs : List ℕ) → 0 < length xs → length xs ≤ 8192 → pieces xs ≡ xs ∷ []
+pub one_piece : (xs : List ℕ) → 0 < length xs → length xs ≤ CAPACITY → pieces_of xs ≡ xs ∷ []
 one_piece xs some fits =
-    let one : (length xs + 8191) / 8192 ≡ 1 = omega arith in
-    rw (one, take_all 8192 xs fits) refl
+    let one : (length xs + (CAPACITY - 1)) / CAPACITY ≡ 1 = omega arith in
+    rw (one, take_all CAPACITY xs fits) refl
 
 -- the chunks of a list, joined, are the list
 concat-chunks : (n k : ℕ) (xs : List ℕ) → length xs ≤ k * n → concat (first_chunks n k xs) ≡ xs
@@ -59,7 +64,7 @@ pub output_events-bytes : (text : List ℕ) → filter_map written_byte (output_
 output_events-bytes text = grind (arith, bytes-in, concat-chunks)
 
 -- the events after full pieces are those of what follows
-pub output_events-append : (xs ys : List ℕ) → length xs % 8192 ≡ 0
+pub output_events-append : (xs ys : List ℕ) → length xs % CAPACITY ≡ 0
     → output_events (xs ++ ys) ≡ output_events xs ++ output_events ys
 output_events-append xs ys full = grind (arith, pieces-append, flat_map-append)
 

@@ -1,7 +1,10 @@
 -- A text of one piece is given to a sink. `a`, `b` and `c` are the sink before, between and after.
-use Rattle.std.proofs.Common.{ℕ, zero, suc, ◌≡◌, ◌<◌, ◌≤◌, List, [], ◌∷◌, ◌++◌, length, take, drop, filter_map, Ok, Err, inl, inr, refl, ap, append_assoc, append-nil, arith, rules}
+use Rattle.sum_lines.specs.declared.sinks.buffered.TheConstants.{CAPACITY}
+use Rattle.std.proofs.Common.{ℕ, zero, suc, ◌≡◌, ◌<◌, ◌≤◌, List, [], ◌∷◌, ◌++◌, length, take, drop, filter_map, Ok, Err}
+use Rattle.std.proofs.Common.{inl, inr, refl, ap, append_assoc, append-nil, arith, rules}
 use Rattle.std.proofs.lemmas.List.Elements.{filter_map-append}
-use Rattle.sum_lines.specs.sinks.Output.{OutputEvent, OffersEach, GivesAll, offer_piece, write_byte, written_byte, byte_events, output_events}
+use Rattle.sum_lines.specs.sinks.Output.{OutputEvent, OffersEach, GivesAll, offer_piece, write_byte, written_byte}
+use Rattle.sum_lines.specs.sinks.Output.{byte_events, output_events}
 use Rattle.sum_lines.{specs.sinks.Sink.SinkState, specs.sinks.Sink.WritesSome, proofs.EventLemmas.one_piece}
 
 -- what is left of a piece is offered, if anything is
@@ -45,7 +48,7 @@ pub record HasGiven (a b : SinkState) (text rest : List ℕ) : Type 0 where
   pub failures : b.output.failures ≡ a.output.failures
 
 -- at first all of the text is the rest
-pub HasGiven-none : (a : SinkState) (text : List ℕ) → length text ≤ 8192 → HasGiven a a text text
+pub HasGiven-none : (a : SinkState) (text : List ℕ) → length text ≤ CAPACITY → HasGiven a a text text
 HasGiven-none a [] fits = search (rules, append-nil)
 HasGiven-none a (b ∷ bs) fits =
     let cut : output_events (b ∷ bs) ≡ (offer_piece (b ∷ bs) ∷ []) ++ byte_events (b ∷ bs) =

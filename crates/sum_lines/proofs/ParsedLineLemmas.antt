@@ -1,11 +1,18 @@
 -- How a line parses, as it is computed, is what the line grammar says of it.
 use Rattle.std.proofs.Common.{◌≡◌, ◌↔◌, ℕ, false, List, Option, None, Some, refl, ap, sym, ◌∙◌, ◌⊎◌, inl, inr, arith}
 use Rattle.std.{proofs.lemmas.Option.same_Some, specs.Option.option_or}
-use Rattle.digest_kinds.{proofs.PrefixLemmas.bind_some, proofs.PrefixLemmas.none_of, specs.Bytes.◌>>=◌, specs.declared.algo.Algos.Algos}
-use Rattle.sum_lines.proofs.{EntryLemmas.entry-not_ignored, EscapeLemmas.spelled-is, EscapeLemmas.is-spelled, PlainLemmas.one_shape, PlainLemmas.plain_is_read, PlainLemmas.read_is_plain, TaggedLemmas.tagged_is_read, TaggedLemmas.read_is_tagged}
+use Rattle.digest_kinds.{proofs.PrefixLemmas.bind_some, proofs.PrefixLemmas.none_of, specs.Bytes.◌>>=◌}
+use Rattle.digest_kinds.{specs.declared.algo.Algos.Algos}
+use Rattle.sum_lines.proofs.{EntryLemmas.entry-not_ignored, EscapeLemmas.spelled-is, EscapeLemmas.is-spelled}
+use Rattle.sum_lines.proofs.{PlainLemmas.one_shape, PlainLemmas.plain_is_read, PlainLemmas.read_is_plain}
+use Rattle.sum_lines.proofs.{TaggedLemmas.tagged_is_read, TaggedLemmas.read_is_tagged}
 use Rattle.sum_lines.specs.Escape.{escape}
-use Rattle.sum_lines.specs.grammar.{Entries.EntryValue, Entries.IsEntry, Entries.IsRawName, Entries.is_ignored, Form.Form, LineLaws.HasOneEntry, LineLaws.FitsGrammar, LineLaws.ParsesByGrammar, LineParts.LinePartsValue, LineParts.tagged_parts}
-use Rattle.sum_lines.specs.grammar.{LineParts.plain_parts, ParsedLines.parts_with_raw_name, ParsedLines.entry_of_parts, ParsedLines.entry_of, ParsedLines.ParsedLine, ParsedLines.bad, ParsedLines.parse_line, Shapes.IsPlain, Shapes.IsTagged}
+use Rattle.sum_lines.specs.grammar.{Entries.EntryValue, Entries.IsEntry, Entries.IsRawName, Entries.is_ignored}
+use Rattle.sum_lines.specs.grammar.{Form.Form, LineLaws.HasOneEntry, LineLaws.FitsGrammar, LineLaws.ParsesByGrammar}
+use Rattle.sum_lines.specs.grammar.{LineParts.LinePartsValue, LineParts.tagged_parts}
+use Rattle.sum_lines.specs.grammar.{LineParts.plain_parts, ParsedLines.parts_with_raw_name, ParsedLines.entry_of_parts}
+use Rattle.sum_lines.specs.grammar.{ParsedLines.entry_of, ParsedLines.ParsedLine, ParsedLines.bad}
+use Rattle.sum_lines.specs.grammar.{ParsedLines.parse_line, Shapes.IsPlain, Shapes.IsTagged}
 
 module _ (algos : Algos) (f : Form) (line : List ℕ) where
   -- ---- the entry that a line has is computed

@@ -1,13 +1,20 @@
 -- A line that is put together from the parts of a plain line is read as these parts, and no other line is read as
 -- plain. No line is both plain and tagged.
-use Rattle.std.{proofs.Math.Seq.drop-append-add, specs.List.AllPass, specs.List.before_first, specs.List.after_first, specs.List.position_or_len}
-use Rattle.std.proofs.lemmas.List.{Sums.split_at_first, Sums.passes_at_first, Elements.All-head, Elements.All-tail, Elements.All-weaker, take_at}
-use Rattle.std.proofs.Common.{ℕ, ◌≡◌, ◌<◌, ◌≤◌, not, Bool, true, List, ◌∷◌, ◌++◌, length, get_or, None, Some, Ok, refl, ap, sym, ◌∙◌, arith, length-drop, take_while, rules}
+use Rattle.std.{proofs.Math.Seq.drop-append-add, specs.List.AllPass, specs.List.before_first, specs.List.after_first}
+use Rattle.std.{specs.List.position_or_len}
+use Rattle.std.proofs.lemmas.List.{Sums.split_at_first, Sums.passes_at_first, Elements.All-head, Elements.All-tail}
+use Rattle.std.proofs.lemmas.List.{Elements.All-weaker, take_at}
+use Rattle.std.proofs.Common.{ℕ, ◌≡◌, ◌<◌, ◌≤◌, not, Bool, true, List, ◌∷◌, ◌++◌, length, get_or, None, Some, Ok, refl}
+use Rattle.std.proofs.Common.{ap, sym, ◌∙◌, arith, length-drop, take_while, rules}
 use Rattle.hex.{proofs.HexLemmas.decode_of-ok, specs.Hex.decode_of, specs.Hex.is_hex_digit}
-use Rattle.digest_kinds.{proofs.KindLemmas.no_digits, proofs.PrefixLemmas.prefix_passes, proofs.PrefixLemmas.prefix-and-rest, proofs.PrefixLemmas.prefix_len-stop, specs.Algo.tag, specs.Bytes.after_while, specs.Kind.KindValue}
+use Rattle.digest_kinds.{proofs.KindLemmas.no_digits, proofs.PrefixLemmas.prefix_passes}
+use Rattle.digest_kinds.{proofs.PrefixLemmas.prefix-and-rest, proofs.PrefixLemmas.prefix_len-stop, specs.Algo.tag_of}
+use Rattle.digest_kinds.{specs.Bytes.after_while, specs.Kind.KindValue}
 use Rattle.digest_kinds.specs.declared.algo.{Algo.Algo, Algos.Algos, Algos.TheVariants.One, Algos.TheVariants.Any}
-use Rattle.sum_lines.proofs.{PrefixLemmas.text, PrefixLemmas.mark_and_rest-is, TaggedLemmas.BeginsText, TaggedLemmas.hex-no_blank, TaggedLemmas.tagged-prefix, TaggedLemmas.mark_and_rest-prefix}
-use Rattle.sum_lines.specs.{grammar.LineParts.LinePartsValue, grammar.LineParts.plain_parts, grammar.Shapes.is_blank, grammar.Shapes.IsPlain, grammar.Shapes.IsTagged, private.Beginnings.BeginsWithDigits}
+use Rattle.sum_lines.proofs.{PrefixLemmas.text, PrefixLemmas.mark_and_rest-is, TaggedLemmas.BeginsText}
+use Rattle.sum_lines.proofs.{TaggedLemmas.hex-no_blank, TaggedLemmas.tagged-prefix, TaggedLemmas.mark_and_rest-prefix}
+use Rattle.sum_lines.specs.{grammar.LineParts.LinePartsValue, grammar.LineParts.plain_parts, grammar.Shapes.is_blank}
+use Rattle.sum_lines.specs.{grammar.Shapes.IsPlain, grammar.Shapes.IsTagged, private.Beginnings.BeginsWithDigits}
 
 -- ---- what is read joins to the line
 
@@ -87,7 +94,8 @@ plain_is_read p t =
 -- ---- one shape
 
 -- a plain line's digits begin no tag
-pub no_prefix : (a : Algo) (ds s rest : List ℕ) → AllPass is_hex_digit ds → 2 ≤ length ds → ds ++ s ≡ tag a ++ rest → ⊥
+pub no_prefix : (a : Algo) (ds s rest : List ℕ) → AllPass is_hex_digit ds → 2 ≤ length ds → ds ++ s ≡ tag_of a ++ rest
+    → ⊥
 no_prefix a (x ∷ y ∷ xs) s rest all two e =
     let later = All-tail (λ b. is_hex_digit b ≡ true) x (y ∷ xs) all in
     no_digits a x y (xs ++ s) rest (search (rules, All-head)) (search (rules, All-head)) e

@@ -1,10 +1,16 @@
 -- What follows a text or a byte in a line.
-use Rattle.std.proofs.lemmas.{Bool.Decides.Decides-eqb, List.take_at, List.get_or-append_right, Bool.eq-eqb, Grind.common_steps, Slice.Eq.starts_is}
-use Rattle.std.{specs.Option.option_or, proofs.lemmas.List.Elements.All-get_or, specs.Path.rsplit_once, specs.Path.rfind_below, proofs.Math.Seq.get_or-append_seam, proofs.Math.Seq.drop-append-add, specs.List.starts_with}
-use Rattle.std.proofs.Common.{ℕ, zero, suc, ◌≡◌, ◌≢◌, ◌+◌, ◌<◌, ◌≤◌, Bool, true, cond, ◌==◌, List, [], ◌∷◌, ◌++◌, length, take, drop, get_or, Option, Some, refl, arith, length-append, All, option_map}
-use Rattle.memchr.{proofs.lemmas.FindLemmas.Nowhere-more, proofs.lemmas.ValueLemmas.IsLastByte-value, specs.Find.Passes, specs.Find.IsLast, specs.Find.IsLastByte, specs.Find.is_byte}
+use Rattle.std.proofs.lemmas.{Bool.Decides.Decides-eqb, List.take_at, List.get_or-append_right, Bool.eq-eqb}
+use Rattle.std.proofs.lemmas.{Grind.common_steps, Slice.Eq.starts_is}
+use Rattle.std.{specs.Option.option_or, proofs.lemmas.List.Elements.All-get_or, specs.Path.rsplit_once}
+use Rattle.std.{specs.Path.rfind_below, proofs.Math.Seq.get_or-append_seam, proofs.Math.Seq.drop-append-add}
+use Rattle.std.{specs.List.starts_with}
+use Rattle.std.proofs.Common.{ℕ, zero, suc, ◌≡◌, ◌≢◌, ◌+◌, ◌<◌, ◌≤◌, Bool, true, cond, ◌==◌, List, [], ◌∷◌, ◌++◌}
+use Rattle.std.proofs.Common.{length, take, drop, get_or, Option, Some, refl, arith, length-append, All, option_map}
+use Rattle.memchr.{proofs.lemmas.FindLemmas.Nowhere-more, proofs.lemmas.ValueLemmas.IsLastByte-value, specs.Find.Passes}
+use Rattle.memchr.{specs.Find.IsLast, specs.Find.IsLastByte, specs.Find.is_byte}
 use Rattle.digest_kinds.{proofs.PrefixLemmas.map_some, specs.Bytes.after_while}
-use Rattle.sum_lines.specs.grammar.{LineParts.strip_prefix, LineParts.mark_and_rest, Shapes.is_blank, Shapes.mark}
+use Rattle.sum_lines.specs.grammar.{LineParts.strip_prefix, LineParts.mark_and_rest, Shapes.is_blank}
+use Rattle.sum_lines.specs.grammar.{Shapes.backslash_if}
 
 -- ---- a byte or a text at the start
 
@@ -13,7 +19,7 @@ abbrev pub text : List ℕ → Bool × List ℕ
 text line = mark_and_rest (after_while is_blank line)
 
 -- what follows a line's blanks is its backslash, if it has one, and its text
-pub mark_and_rest-is : (xs : List ℕ) → xs ≡ mark (mark_and_rest xs).0 ++ (mark_and_rest xs).1
+pub mark_and_rest-is : (xs : List ℕ) → xs ≡ backslash_if (mark_and_rest xs).0 ++ (mark_and_rest xs).1
 mark_and_rest-is xs = grind arith
 
 -- a prefix that was stripped began the bytes

@@ -1,21 +1,29 @@
 -- A line that is written is read back. It has a shape, which spells the name and the digest that it was written for. It
 -- has no newline and no carriage return before its end.
-use Rattle.std.proofs.Common.{ℕ, ◌≡◌, ◌*◌, not, cond, Bool, true, false, ◌==◌, ◌||◌, List, [], ◌∷◌, ◌++◌, refl, ◌⊎◌, inl, inr, append_assoc, arith, decimal}
-use Rattle.std.proofs.lemmas.{Grind.common_steps, List.append-nil, List.Folds.list_all-append, List.Sums.list_all-from_AllPass, Slice.Eq.bytes_eq-Decides}
+use Rattle.std.specs.Str.{byte}
+use Rattle.std.proofs.Common.{ℕ, ◌≡◌, ◌*◌, not, cond, Bool, true, false, ◌==◌, ◌||◌, List, [], ◌∷◌, ◌++◌, refl, ◌⊎◌}
+use Rattle.std.proofs.Common.{inl, inr, append_assoc, arith, decimal}
+use Rattle.std.proofs.lemmas.{Grind.common_steps, List.append-nil, List.Folds.list_all-append}
+use Rattle.std.proofs.lemmas.{List.Sums.list_all-from_AllPass, Slice.Eq.bytes_eq-Decides}
 use Rattle.std.specs.{Char.is_ascii_digit, List.AllPass, List.list_all}
 use Rattle.hex.{proofs.HexLemmas.decode_of-encode_lower, specs.Hex.encode_lower, specs.Hex.is_hex_digit}
 use Rattle.digest_kinds.proofs.{BitsLemmas.decimal-digits, KindLemmas.has_len-range, PrefixLemmas.none_of}
-use Rattle.digest_kinds.specs.{Algo.tag, Kind.KindValue, KindText.IsWidth, declared.algo.Algo.TheVariants.Blake2b, declared.algo.Algos.Algos, declared.algo.Algos.TheVariants.One}
+use Rattle.digest_kinds.specs.{Algo.tag_of, Kind.KindValue, KindText.IsWidth, declared.algo.Algo.TheVariants.Blake2b}
+use Rattle.digest_kinds.specs.{declared.algo.Algos.Algos, declared.algo.Algos.TheVariants.One}
 use Rattle.sum_settings.specs.declared.style.Mode.{Mode}
-use Rattle.sum_lines.specs.grammar.{LineLaws.IsWritable, LineLaws.SpellsBack, LineLaws.IsReadBack, Shapes.mark, Shapes.Allows, Shapes.IsPlain, Shapes.IsTagged, Form.Form, Form.Undecided, Form.Standard, Form.begins_standard, Form.line_form, Form.form}
+use Rattle.sum_lines.specs.grammar.{LineLaws.IsWritable, LineLaws.SpellsBack, LineLaws.IsReadBack, Shapes.backslash_if}
+use Rattle.sum_lines.specs.grammar.{Shapes.Allows, Shapes.IsPlain, Shapes.IsTagged, Form.Form, Form.Undecided}
+use Rattle.sum_lines.specs.grammar.{Form.Standard, Form.begins_standard, Form.line_form, Form.form_of}
 use Rattle.sum_lines.proofs.PlainLemmas.{one_shape, digits-of, plain_is_read, read_is_plain}
-use Rattle.sum_lines.{proofs.ParsedLineLemmas.one_entry, specs.grammar.LineParts.plain_parts, specs.Escape.escape, specs.Escape.escape_differs, specs.grammar.Entries.IsEntry, proofs.EntryLemmas.form_at, proofs.EscapeLemmas.length-escape}
-use Rattle.sum_lines.specs.writing.DigestLine as lines
+use Rattle.sum_lines.{proofs.ParsedLineLemmas.one_entry, specs.grammar.LineParts.plain_parts, specs.Escape.escape}
+use Rattle.sum_lines.{specs.Escape.escape_differs, specs.grammar.Entries.IsEntry, proofs.EntryLemmas.form_at}
+use Rattle.sum_lines.{proofs.EscapeLemmas.length-escape}
+use Rattle.sum_lines.specs.writing.PutLine as lines
 
 -- a line that ends with a newline, without it
 abbrev pub prefix_of : Mode → KindValue → List ℕ → List ℕ → List ℕ
 prefix_of mode kind name digest =
-    mark (escape_differs name) ++ lines.layout mode kind (escape name) (encode_lower digest)
+    backslash_if (escape_differs name) ++ lines.layout mode kind (escape name) (encode_lower digest)
 
 -- ---- bytes within a line
 
@@ -52,10 +60,10 @@ module _ {kind : KindValue} {name digest : List ℕ} (before later : List (List 
   where
     -- a line with an entry is read back, since a line spells at most one
     back : (algos : Algos) (prefix : List ℕ) → list_all inline prefix ≡ true
-        → IsEntry escape algos (form algos (before ++ (prefix ∷ later))) prefix
+        → IsEntry escape algos (form_of algos (before ++ (prefix ∷ later))) prefix
         (record { kind = kind; digest = digest; name = name })
-        → IsReadable (form algos (before ++ (prefix ∷ [])))
-        → SpellsBack algos before later (prefix ++ (10 ∷ [])) kind name digest
+        → IsReadable (form_of algos (before ++ (prefix ∷ [])))
+        → SpellsBack algos before later (prefix ++ (byte "\n" ∷ [])) kind name digest
     back algos prefix one has keeps = record {
       prefix = prefix;
       whole = refl;
@@ -76,12 +84,12 @@ module _ {kind : KindValue} {name digest : List ℕ} (before later : List (List 
         inline-all is_hex_digit (encode_lower digest) refl refl digits.are
 
     -- a plain line is read back: x is the byte before the name
-    plain-back : (x : ℕ) → (x == 32 || x == 42) ≡ true → IsReadable (form (One kind.algo) before)
+    plain-back : (x : ℕ) → (x == 32 || x == 42) ≡ true → IsReadable (form_of (One kind.algo) before)
         → SpellsBack (One kind.algo) before later
-        ((mark (escape_differs name) ++ (encode_lower digest ++ (32 ∷ x ∷ escape name))) ++ (10 ∷ []))
+        ((backslash_if (escape_differs name) ++ (encode_lower digest ++ (32 ∷ x ∷ escape name))) ++ (byte "\n" ∷ []))
         kind name digest
     plain-back x star readable =
-        let line = mark (escape_differs name) ++ (encode_lower digest ++ (32 ∷ x ∷ escape name)) in
+        let line = backslash_if (escape_differs name) ++ (encode_lower digest ++ (32 ∷ x ∷ escape name)) in
         let one : list_all inline line ≡ true = grind (arith, list_all-append, inline-digits, inline-escape) in
         let shape : IsPlain (One kind.algo) line (escape_differs name) kind digest
         (x ∷ escape name) = record {
@@ -99,7 +107,7 @@ module _ {kind : KindValue} {name digest : List ℕ} (before later : List (List 
         } in
         let standard : begins_standard (x ∷ escape name) ≡ true = let some = w.some in grind (arith, length-escape) in
         let own : line_form (One kind.algo) line ≡ Standard = rw (plain_is_read _ shape, standard) refl in
-        let after : (others : List (List ℕ)) → form (One kind.algo) (before ++ (line ∷ others)) ≡ Standard =
+        let after : (others : List (List ℕ)) → form_of (One kind.algo) (before ++ (line ∷ others)) ≡ Standard =
         λ others. grind (arith, form_at) in
         back (One kind.algo) line one (rw (after later) (record {
           escaped = escape_differs name;
@@ -111,13 +119,13 @@ module _ {kind : KindValue} {name digest : List ℕ} (before later : List (List 
 
     -- a tagged line is read back
     tagged-back : (algos : Algos) (width : List ℕ) → Allows algos kind.algo → IsWidth kind width
-        → IsReadable (form algos before)
-        → SpellsBack algos before later ((mark (escape_differs name)
-        ++ (tag kind.algo ++ (width ++ (32 ∷ 40 ∷ (escape name ++ (41 ∷ 32 ∷ 61 ∷ 32 ∷ encode_lower digest))))))
-        ++ (10 ∷ [])) kind name digest
+        → IsReadable (form_of algos before)
+        → SpellsBack algos before later ((backslash_if (escape_differs name)
+        ++ (tag_of kind.algo ++ (width ++ (32 ∷ 40 ∷ (escape name ++ (41 ∷ 32 ∷ 61 ∷ 32 ∷ encode_lower digest))))))
+        ++ (byte "\n" ∷ [])) kind name digest
     tagged-back algos width allowed is_width readable =
-        let line = mark (escape_differs name)
-        ++ (tag kind.algo ++ (width ++ (32 ∷ 40 ∷ (escape name ++ (41 ∷ 32 ∷ 61 ∷ 32 ∷ encode_lower digest))))) in
+        let line = backslash_if (escape_differs name)
+        ++ (tag_of kind.algo ++ (width ++ (32 ∷ 40 ∷ (escape name ++ (41 ∷ 32 ∷ 61 ∷ 32 ∷ encode_lower digest))))) in
         let shape : IsTagged algos line (escape_differs name) kind digest (escape name) = record {
           blanks = [];
           width = width;

@@ -1,15 +1,26 @@
 -- What the functions that scan a line return, step by step; what a line begins with, and the parts that it is then read
 -- as. The code looks for the first blank of a plain line's text among as many bytes as the longest digest has digits.
-use Rattle.std.proofs.lemmas.List.{drop_at, get_or-take, length-take, Elements.All-get_or, Sums.passes_at_first, Sums.position_or_len_is}
-use Rattle.std.proofs.Common.{ℕ, ◌≡◌, ◌≢◌, ◌+◌, ◌-◌, ◌*◌, ◌<◌, ◌≤◌, List, [], ◌∷◌, ◌++◌, length, take, drop, slice_range, Option, None, Some, MatchOption, Ok, Bor, sym, arith, append_assoc, option_copied, get_or, min, ◌/◌, true, cond, IfNone, IfSome}
-use Rattle.std.{proofs.Common.refl, proofs.Common.length-drop, proofs.Common.rules, specs.List.position_or_len, proofs.lemmas.Grind.common_steps, specs.Option.option_or, specs.Path.rsplit_once}
+use Rattle.std.proofs.lemmas.List.{drop_at, get_or-take, length-take, Elements.All-get_or, Sums.passes_at_first}
+use Rattle.std.proofs.lemmas.List.{Sums.position_or_len_is}
+use Rattle.std.proofs.Common.{ℕ, ◌≡◌, ◌≢◌, ◌+◌, ◌-◌, ◌*◌, ◌<◌, ◌≤◌, List, [], ◌∷◌, ◌++◌, length, take, drop}
+use Rattle.std.proofs.Common.{slice_range, Option, None, Some, MatchOption, Ok, Bor, sym, arith, append_assoc}
+use Rattle.std.proofs.Common.{option_copied, get_or, min, ◌/◌, true, cond, IfNone, IfSome}
+use Rattle.std.{proofs.Common.refl, proofs.Common.length-drop, proofs.Common.rules, specs.List.position_or_len}
+use Rattle.std.{proofs.lemmas.Grind.common_steps, specs.Option.option_or, specs.Path.rsplit_once}
 use Rattle.memchr.specs.Find.{IsFirstByte, is_byte2}
 use Rattle.hex.{proofs.HexLemmas.decode_of-ok, specs.Hex.decode_of}
-use Rattle.digest_kinds.specs.{KindText.kind_and_rest, Bytes.after_while, declared.algo.Algos.TheVariants.One, Kind.KindValue, Digest.IsDigits, Algo.tag, Algo.full_len, Algo.has_len, declared.algo.Algos.Algos, declared.algo.Algo.TheVariants.Blake2b}
-use Rattle.digest_kinds.{proofs.KindTextLemmas.kind_and_rest-some, proofs.PrefixLemmas.none_of, proofs.KindLemmas.has_len-full, specs.declared.algo.Algo.Algo}
-use Rattle.sum_lines.proofs.{TaggedLemmas.hex-no_blank, TaggedLemmas.tag_in-some, PlainLemmas.uncut, PlainLemmas.cut-within, PlainLemmas.no_prefix, PlainLemmas.plain-digits, PlainLemmas.plain-prefix, PlainLemmas.read_is_plain}
+use Rattle.digest_kinds.specs.{KindText.kind_and_rest, Bytes.after_while, declared.algo.Algos.TheVariants.One}
+use Rattle.digest_kinds.specs.{Kind.KindValue, Digest.IsDigits, Algo.tag_of, Algo.full_len_of, Algo.has_len}
+use Rattle.digest_kinds.specs.{declared.algo.Algos.Algos, declared.algo.Algo.TheVariants.Blake2b}
+use Rattle.digest_kinds.{proofs.KindTextLemmas.kind_and_rest-some, proofs.PrefixLemmas.none_of}
+use Rattle.digest_kinds.{proofs.KindLemmas.has_len-full, specs.declared.algo.Algo.Algo}
+use Rattle.sum_lines.proofs.{TaggedLemmas.hex-no_blank, TaggedLemmas.tag_in-some, PlainLemmas.uncut}
+use Rattle.sum_lines.proofs.{PlainLemmas.cut-within, PlainLemmas.no_prefix, PlainLemmas.plain-digits}
+use Rattle.sum_lines.proofs.{PlainLemmas.plain-prefix, PlainLemmas.read_is_plain}
 use Rattle.sum_lines.proofs.PrefixLemmas.{text, opening, strip_prefix-some, starts-append, opened-some, rsplit-some}
-use Rattle.sum_lines.specs.{declared.reading.line_parts.Front.Front, grammar.Shapes.is_blank, grammar.LineParts.strip_prefix, grammar.LineParts.tag_in, grammar.LineParts.tagged_parts, grammar.LineParts.plain_parts}
+use Rattle.sum_lines.specs.{declared.reading.line_parts.Front.Front, grammar.Shapes.is_blank}
+use Rattle.sum_lines.specs.{grammar.LineParts.strip_prefix, grammar.LineParts.tag_in, grammar.LineParts.tagged_parts}
+use Rattle.sum_lines.specs.{grammar.LineParts.plain_parts}
 use Rattle.sum_lines.specs.private.Beginnings.{IsFront, BeginsWithDigits, IsFirstBlank, EndsDigits, IsReadAs}
 use Rattle.sum_lines.specs.declared.reading.beginnings.Beginning.TheVariants as beginnings
 
@@ -47,15 +58,15 @@ ends-after xs rest ends is = (ends.0 ++ xs, grind (arith, append_assoc))
 
 -- the name after the parenthesis has its place in the line
 pub name_place : {line s inner : List ℕ} {name : List ℕ × List ℕ} (a : Algo) (w : KindValue × List ℕ) → EndsIn line s
-    → Some w ≡ kind_and_rest a (drop (length (tag a)) s)
+    → Some w ≡ kind_and_rest a (drop (length (tag_of a)) s)
     → Some inner ≡ option_or (strip_prefix (32 ∷ 40 ∷ []) w.1) (strip_prefix (40 ∷ []) w.1)
     → Some name ≡ rsplit_once 41 inner
     → (length inner ≤ length line) × (length line - length inner + length name.0 ≤ length line)
     × (slice_range line (length line - length inner) (length line - length inner + length name.0) ≡ name.0)
 name_place {s = s} {inner = inner} {name = name} a w ends wide opened split =
-    let width = kind_and_rest-some a (drop (length (tag a)) s) w (sym wide) in
+    let width = kind_and_rest-some a (drop (length (tag_of a)) s) w (sym wide) in
     let gap = opened-some w.1 inner (sym opened) in
-    let front = take (length (tag a)) s ++ (width.width ++ opening gap.0 []) in
+    let front = take (length (tag_of a)) s ++ (width.width ++ opening gap.0 []) in
     let after = ends-after front inner ends (grind (arith, common_steps)) in
     let is = rsplit-some 41 inner name (sym split) in
     grind (arith, common_steps)
@@ -68,7 +79,7 @@ tail-place ends = grind (arith, common_steps)
 -- what was read step by step after the tag; no step looks which algorithm it is
 module _ {w : KindValue × List ℕ} {s inner after digits : List ℕ} {name : List ℕ × List ℕ} (a : Algo) (line : List ℕ)
     (found : tag_in (One a) (text line).1 ≡ Some a) (text_is : s ≡ (text line).1)
-    (width : Some w ≡ kind_and_rest a (drop (length (tag a)) s))
+    (width : Some w ≡ kind_and_rest a (drop (length (tag_of a)) s))
     (opened : Some inner ≡ option_or (strip_prefix (32 ∷ 40 ∷ []) w.1) (strip_prefix (40 ∷ []) w.1))
     (split : Some name ≡ rsplit_once 41 inner) (after_is : after ≡ after_while is_blank name.1)
     (sign : Some digits ≡ strip_prefix (61 ∷ []) after) where
@@ -98,7 +109,7 @@ pub by_tag : (algos : Algos) (line : List ℕ) (a : Algo) → tag_in algos (text
 unfolding tagged_parts
 by_tag algos line a h =
     let found = tag_in-some algos (text line).1 h in
-    let begins : tag_in (One a) (text line).1 ≡ Some a = rw found.1 (rw (starts-append (tag a) _) refl) in (
+    let begins : tag_in (One a) (text line).1 ≡ Some a = rw found.1 (rw (starts-append (tag_of a) _) refl) in (
       begins,
       rw (h, begins) refl,
       none_of (plain_parts algos line) (λ p plain.
@@ -110,7 +121,7 @@ by_tag algos line a h =
 -- ---- the blank after the digits
 
 -- an algorithm other than BLAKE2b has digests of one length, so a line's digits are as many
-pub fixed_len : (a : Algo) (s : List ℕ) (n : ℕ) → (a ≡ Blake2b → ⊥) → n ≡ 2 * full_len a → IsFirstBlank a s n
+pub fixed_len : (a : Algo) (s : List ℕ) (n : ℕ) → (a ≡ Blake2b → ⊥) → n ≡ 2 * full_len_of a → IsFirstBlank a s n
 fixed_len a s n other is = grind (arith, has_len-full, cut-size)
 
 -- if no blank is found among the first bytes, the line isn't plain

@@ -1,8 +1,13 @@
 -- A text is written to a buffer piece by piece. `a`, `b` and `c` are the buffer before, between and after.
-use Rattle.std.proofs.Common.{ℕ, ◌≡◌, ◌<◌, ◌≤◌, ◌-◌, ◌+◌, ◌%◌, List, [], ◌++◌, length, take, Result, Ok, Err, inl, inr, min, refl, sym, ap, ◌∙◌, append_assoc, append-nil, length-append, length-take, lit<, rules, arith}
+use Rattle.sum_lines.specs.declared.sinks.buffered.TheConstants.{CAPACITY}
+use Rattle.std.proofs.Common.{ℕ, ◌≡◌, ◌<◌, ◌≤◌, ◌-◌, ◌+◌, ◌%◌, List, [], ◌++◌, length, take, Result, Ok, Err, inl, inr}
+use Rattle.std.proofs.Common.{min, refl, sym, ap, ◌∙◌, append_assoc, append-nil, length-append, length-take, lit<}
+use Rattle.std.proofs.Common.{rules, arith}
 use Rattle.std.specs.Result.{IsErr}
 use Rattle.sum_lines.proofs.EventLemmas.{output_events-append, Gets-none, Gets-then, GetsPrefix-then}
-use Rattle.sum_lines.specs.sinks.{Buffered.MakesRoom, Buffered.BufferState, Buffered.Accepts, Buffered.FailsToWrite, Buffered.WritesAll, Output.OutputState, Output.GivesAll, Output.output_events}
+use Rattle.sum_lines.specs.sinks.{Buffered.BufferState, Buffered.Accepts, Buffered.FailsToWrite, Buffered.WritesAll}
+use Rattle.sum_lines.specs.sinks.{Output.OutputState, Output.GivesAll, Output.output_events}
+use Rattle.sum_lines.specs.private.Buffered.{MakesRoom}
 
 -- ---- two texts, one after the other
 
@@ -50,12 +55,12 @@ writes_then c xs ys (Err e) first rest = FailsToWrite-in xs ys [] first rest (ap
 
 -- the first bytes of a piece were accepted, once there was room
 pub accepts_some : {a b : BufferState} (c : BufferState) (piece : List ℕ) (n : ℕ)
-    → MakesRoom {E = Unit {0}} a b (Ok tt) → 0 < length piece → n ≡ min (length piece) (8192 - length b.buffered)
+    → MakesRoom {E = Unit {0}} a b (Ok tt) → 0 < length piece → n ≡ min (length piece) (CAPACITY - length b.buffered)
     → c.sink ≡ b.sink → c.buffered ≡ b.buffered ++ take n piece
     → (n ≤ length piece) × (0 < n) × Accepts a c (take n piece)
 accepts_some {a} {b} c piece n made some count sink buffered =
     let size = simp (length-append, length-take) at (ap length buffered) in
-    let room : length b.buffered < 8192 =
+    let room : length b.buffered < CAPACITY =
     elim made [ inl (full, none, gives, ok) ↦ rw none (lit< tt) | inr (less, same, ok) ↦ rw same less ] in (
       omega arith,
       omega arith,
@@ -81,7 +86,7 @@ accepts_some {a} {b} c piece n made some count sink buffered =
 pub accept_failed : {a b : BufferState} (piece : List ℕ) → MakesRoom {E = Unit {0}} a b (Err tt) → 0 < length piece
     → FailsToWrite a b piece
 accept_failed {a} piece (inl (full, none, gives, flushed)) some =
-    let whole : length a.buffered % 8192 ≡ 0 = rw full refl in search rules
+    let whole : length a.buffered % CAPACITY ≡ 0 = rw full refl in search rules
 accept_failed piece (inr (room, same, ok)) some = cc
 
 -- ---- a text, piece after piece

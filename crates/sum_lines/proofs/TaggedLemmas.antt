@@ -1,23 +1,36 @@
 -- The parts that are read of a tagged line, put together, are the line. A line that is put together from the parts of a
 -- tagged line is read as these parts.
-use Rattle.std.proofs.Common.{ℕ, ◌≡◌, Bool, true, ◌==◌, ◌&&◌, List, [], ◌∷◌, ◌++◌, length, drop, Some, refl, ◌≢◌, false, eq-eqb, arith, nat_lt, take_while, All, rules}
-use Rattle.std.proofs.lemmas.{Bool.eqb-true, Bool.ltb-true, Bool.and_parts, Bool.lt-ltb, Bool.Decides.Decides-eqb, Grind.common_steps, List.drop_at, List.Elements.All-cons, List.Elements.All-head, List.Elements.All-append, List.Elements.All-weaker}
-use Rattle.std.{proofs.lemmas.List.Prefix.front_rest, proofs.lemmas.Option.cond_some, proofs.lemmas.Slice.Eq.starts_is, specs.List.starts_with, specs.List.AllPass, specs.Option.option_or, specs.Path.rsplit_once, specs.Result.result_ok}
+use Rattle.std.proofs.Common.{ℕ, ◌≡◌, Bool, true, ◌==◌, ◌&&◌, List, [], ◌∷◌, ◌++◌, length, drop, Some, refl, ◌≢◌, false}
+use Rattle.std.proofs.Common.{eq-eqb, arith, nat_lt, take_while, All, rules}
+use Rattle.std.proofs.lemmas.{Bool.eqb-true, Bool.ltb-true, Bool.and_parts, Bool.lt-ltb, Bool.Decides.Decides-eqb}
+use Rattle.std.proofs.lemmas.{Grind.common_steps, List.drop_at, List.Elements.All-cons, List.Elements.All-head}
+use Rattle.std.proofs.lemmas.{List.Elements.All-append, List.Elements.All-weaker}
+use Rattle.std.{proofs.lemmas.List.Prefix.front_rest, proofs.lemmas.Option.cond_some, proofs.lemmas.Slice.Eq.starts_is}
+use Rattle.std.{specs.List.starts_with, specs.List.AllPass, specs.Option.option_or, specs.Path.rsplit_once}
+use Rattle.std.{specs.Result.result_ok}
 use Rattle.hex.{proofs.HexLemmas.decode_of-ok, specs.Hex.decode_of, specs.Hex.is_hex_digit}
-use Rattle.digest_kinds.{proofs.BitsLemmas.kind_of_digits-bits, proofs.BitsLemmas.decimal-digits, proofs.KindTextLemmas.kind_and_rest-some, proofs.TagLemmas.IfSome-find-begins, proofs.TagLemmas.find-begins, specs.Bytes.after_while}
-use Rattle.digest_kinds.proofs.PrefixLemmas.{bind_some, ok_some, prefix_passes, prefix-and-rest, parts-at, prefix_len-all}
-use Rattle.digest_kinds.specs.{KindText.IsWidth, KindText.kind_and_rest, Algo.all_algos, Algo.tag, declared.algo.Algos.Algos, declared.algo.Algos.TheVariants.One, declared.algo.Algos.TheVariants.Any, Kind.KindValue, declared.algo.Algo.Algo}
-use Rattle.sum_lines.proofs.PrefixLemmas.{text, opening, mark_and_rest-is, strip_prefix-some, opened-some, rsplit-some, opened-at, rsplit-at, starts-append}
-use Rattle.sum_lines.specs.grammar.{LineParts.LinePartsValue, LineParts.strip_prefix, LineParts.mark_and_rest, LineParts.tag_in, LineParts.tagged_parts, Shapes.is_blank, Shapes.Allows, Shapes.IsTagged, Shapes.mark}
+use Rattle.digest_kinds.{proofs.BitsLemmas.kind_of_digits-bits, proofs.BitsLemmas.decimal-digits}
+use Rattle.digest_kinds.{proofs.KindTextLemmas.kind_and_rest-some, proofs.TagLemmas.IfSome-find-begins}
+use Rattle.digest_kinds.{proofs.TagLemmas.find-begins, specs.Bytes.after_while}
+use Rattle.digest_kinds.proofs.PrefixLemmas.{bind_some, ok_some, prefix_passes, prefix-and-rest, parts-at}
+use Rattle.digest_kinds.proofs.PrefixLemmas.{prefix_len-all}
+use Rattle.digest_kinds.specs.{KindText.IsWidth, KindText.kind_and_rest, Algo.all_algos, Algo.tag_of}
+use Rattle.digest_kinds.specs.{declared.algo.Algos.Algos, declared.algo.Algos.TheVariants.One}
+use Rattle.digest_kinds.specs.{declared.algo.Algos.TheVariants.Any, Kind.KindValue, declared.algo.Algo.Algo}
+use Rattle.sum_lines.proofs.PrefixLemmas.{text, opening, mark_and_rest-is, strip_prefix-some, opened-some, rsplit-some}
+use Rattle.sum_lines.proofs.PrefixLemmas.{opened-at, rsplit-at, starts-append}
+use Rattle.sum_lines.specs.grammar.{LineParts.LinePartsValue, LineParts.strip_prefix, LineParts.mark_and_rest}
+use Rattle.sum_lines.specs.grammar.{LineParts.tag_in, LineParts.tagged_parts, Shapes.is_blank, Shapes.Allows}
+use Rattle.sum_lines.specs.grammar.{Shapes.IsTagged, Shapes.backslash_if}
 
 -- ---- the tag
 
 -- the algorithm that is found is allowed, and its tag begins the bytes
 pub tag_in-some : (algos : Algos) (s : List ℕ) {a : Algo} → tag_in algos s ≡ Some a
-    → Allows algos a × (s ≡ tag a ++ drop (length (tag a)) s)
+    → Allows algos a × (s ≡ tag_of a ++ drop (length (tag_of a)) s)
 tag_in-some (One b) s {a} h =
-    let found = cond_some (starts_with ◌==◌ s (tag b)) b a h in
-    rw (← found.1) (refl, (starts_is Decides-eqb s (tag b) _ refl).0 found.0)
+    let found = cond_some (starts_with ◌==◌ s (tag_of b)) b a h in
+    rw (← found.1) (refl, (starts_is Decides-eqb s (tag_of b) _ refl).0 found.0)
 tag_in-some Any s h = let found = rw h at (IfSome-find-begins s all_algos) in grind (arith, front_rest)
 
 -- ---- the whole line
@@ -29,7 +42,7 @@ unfolding tagged_parts
 read_is_tagged {algos} {line} {p} h =
     let t : Bool × List ℕ = text line in
     let algo = bind_some (tag_in algos t.1) _ h in
-    let rest : List ℕ = drop (length (tag algo.0)) t.1 in
+    let rest : List ℕ = drop (length (tag_of algo.0)) t.1 in
     let width = bind_some (kind_and_rest algo.0 rest) _ algo.2 in
     let w : List ℕ = width.0.1 in
     let inner = bind_some (option_or (strip_prefix (32 ∷ 40 ∷ []) w) (strip_prefix (40 ∷ []) w)) _ width.2 in
@@ -78,7 +91,7 @@ BeginsText (x ∷ xs) = (is_blank x ≡ false) × ((x == 92) ≡ false) × ((x =
 
 -- after a line's blanks the backslash is read, if there is one
 pub mark_and_rest-prefix : (blanks : List ℕ) (e : Bool) (xs rest : List ℕ) → AllPass is_blank blanks → BeginsText xs
-    → mark_and_rest (after_while is_blank (blanks ++ (mark e ++ (xs ++ rest)))) ≡ (e, xs ++ rest)
+    → mark_and_rest (after_while is_blank (blanks ++ (backslash_if e ++ (xs ++ rest)))) ≡ (e, xs ++ rest)
 mark_and_rest-prefix blanks e [] rest are b = absurd b
 mark_and_rest-prefix blanks e (x ∷ xs) rest are b =
     let marked = parts-at is_blank blanks 92 (x ∷ (xs ++ rest)) are refl in
@@ -121,7 +134,7 @@ module _ {algos : Algos} {line : List ℕ} {e : Bool} {kind : KindValue} {d raw 
   inner_of = raw ++ (41 ∷ (t.before ++ (61 ∷ (t.after ++ t.digits))))
 
   -- the blanks and the backslash of a tagged line are passed over
-  pub tagged-prefix : text line ≡ (e, tag kind.algo ++ (t.width ++ opening t.gap inner_of))
+  pub tagged-prefix : text line ≡ (e, tag_of kind.algo ++ (t.width ++ opening t.gap inner_of))
   tagged-prefix = grind (arith, mark_and_rest-prefix)
 
 -- a tagged line is read as its parts
@@ -135,12 +148,12 @@ tagged_is_read {algos} p t =
     (free is_hex_digit t.digits refl digits) in
     let last = All-append IsNot41 t.before (61 ∷ value) (free is_blank t.before refl t.before_blanks)
     (All-cons IsNot41 61 value (λ e. cc) value_free) in
-    let named : tag_in algos (tag p.kind.algo ++ (t.width ++ opening t.gap (inner_of t))) ≡ Some p.kind.algo =
+    let named : tag_in algos (tag_of p.kind.algo ++ (t.width ++ opening t.gap (inner_of t))) ≡ Some p.kind.algo =
     let allowed = t.allowed in grind (arith, starts-append, find-begins) in
     rw (
       tagged-prefix t,
       named,
-      drop_at (tag p.kind.algo) _ (length (tag p.kind.algo)) refl,
+      drop_at (tag_of p.kind.algo) _ (length (tag_of p.kind.algo)) refl,
       kind_and_rest-of p.kind t.width t.gap (inner_of t) t.is_width,
       opened-at t.gap (inner_of t),
       rsplit-at 41 p.text (t.before ++ (61 ∷ value)) last,

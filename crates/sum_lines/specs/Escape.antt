@@ -1,5 +1,6 @@
 -- How names are escaped, byte by byte.
-use Rattle.std.specs.{Prelude.ℕ, Prelude.◌==◌, Prelude.Bool, Prelude.not, Prelude.[], Prelude.◌∷◌, Prelude.flat_map, Prelude.bytes_eq, Prelude.codes, Prelude.if◌then◌else◌, Str.byte}
+use Rattle.std.specs.{Prelude.ℕ, Prelude.◌==◌, Prelude.Bool, Prelude.not, Prelude.[], Prelude.◌∷◌, Prelude.flat_map}
+use Rattle.std.specs.{Prelude.bytes_eq, Prelude.codes, Prelude.if◌then◌else◌, Str.byte}
 use Rattle.digest_kinds.specs.Bytes.{ByteString}
 
 -- a backslash becomes `\\`, a newline `\n`, a carriage return `\r`; any other byte stays

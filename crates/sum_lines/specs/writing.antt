@@ -1,3 +1,3 @@
 -- Lines as they are written.
 pub mod Parts
-pub mod DigestLine
+pub mod PutLine

@@ -11,7 +11,7 @@ use std::alloc::Allocator;
 
 /// Returns whether the escaped name differs from the name.
 pub fn needs_escape(name: &[u8]) -> bool
-    ensures { result ≡ escape_differs name.now }
+    ensures value { result ≡ escape_differs name.now }
 {
     next_special(name).is_some()
 }
@@ -20,7 +20,7 @@ pub fn needs_escape(name: &[u8]) -> bool
 /// it is.
 #[tactic(auto, using(crate::proofs::SinkLemmas::at_first))]
 pub fn put_escaped<S: Sink>(sink: &mut Buffered<S>, name: &[u8]) -> Result<(), SinkFault>
-    ensures { WritesAll sink.old sink.new (escape name.now) result }
+    ensures text { WritesAll sink.old sink.new (escape name.now) result }
 {
     let mut rest = name;
     while let Some(at) = next_special(rest) {
@@ -59,7 +59,7 @@ fn put_escape<S: Sink>(sink: &mut Buffered<S>, byte: u8) -> Result<(), SinkFault
 /// escape of a name; they are now that name. Returns false if they were the escape of no name; what they are now is
 /// unspecified. The bytes before that place are unchanged, and the line doesn't get longer.
 pub fn unescape_in<A: Allocator>(line: &mut Vec<u8, A>, from: usize) -> bool
-    requires { from ≤ vec_len line.old }
+    requires from { from ≤ vec_len line.old }
     // For each name: the bytes were its escape if and only if the call returns true and leaves the name in their place.
     ensures name { (n : ByteString) → (drop from line.old.items ≡ escape n)
         ↔ (IsTrue result × (line.new.items ≡ take from line.old.items ++ n)) }

@@ -1,9 +1,11 @@
 //! Laws of the line grammar, and one of the pieces of a text. Each is the contract of a function that does nothing, and
 //! holds whatever the code does.
+ghost use Rattle.sum_lines.specs.declared.sinks.buffered.TheConstants.{CAPACITY};
 ghost use Rattle.digest_kinds.specs.Bytes.{ByteString};
-ghost use Rattle.std.specs.Prelude.{◌≡◌, ◌<◌, ◌≤◌, ◌∷◌, [], length};
-ghost use Rattle.sum_lines.specs.grammar.LineLaws.{HasOneShape, HasOneEntry, HasOneForm, ParsesByGrammar, IsReadBack};
-ghost use Rattle.sum_lines.specs.sinks.Output.{pieces};
+ghost use Rattle.std.specs.Prelude.{◌≡◌, ◌<◌, ◌≤◌, ◌∷◌, ◌++◌, [], length};
+ghost use Rattle.sum_lines.specs.grammar.LineLaws.{EntryIsWritable, HasOneShape, HasOneEntry, HasOneForm};
+ghost use Rattle.sum_lines.specs.grammar.LineLaws.{ParsesByGrammar, IsReadBack};
+ghost use Rattle.sum_lines.specs.sinks.Output.{Gets, GetsPrefix, OutputState, output_events, pieces_of};
 
 /// For given algorithms and a given form, a line spells at most one entry. No line is both plain and tagged, even with
 /// different algorithms.
@@ -13,28 +15,40 @@ pub fn one_entry()
 {}
 
 /// A list of lines has one form: the one that is computed.
-#[tactic(auto, using(crate::proofs::EntryLemmas::one_form))]
 pub fn one_form()
-    ensures { HasOneForm }
+    ensures form { HasOneForm }
 {}
 
-/// What is computed for a line is what the line grammar says of it: it is ignored, an entry, or bad, each if and only if
-/// the grammar says so.
-#[tactic(auto, using(crate::proofs::ParsedLineLemmas::parse_is_grammar))]
+/// What is computed for a line is what the line grammar says of it: it is ignored, an entry, or bad, each if and only
+/// if the grammar says so.
 pub fn parse_is_grammar()
-    ensures { ParsesByGrammar }
+    ensures grammar { ParsesByGrammar }
 {}
 
 /// A line that is written is read back: it spells the kind, the digest and the name that it was written for. It is read
 /// by its own algorithm or, if it is tagged, by any. The premises: the name isn't empty and has no NUL, the style isn't
 /// zero, and no earlier line makes the manifest `Reversed`.
-#[tactic(auto, using(crate::proofs::PutLineLemmas::read_back))]
 pub fn read_back()
-    ensures { IsReadBack }
+    ensures line { IsReadBack }
 {}
 
-/// A text of 1 to 8,192 bytes is one piece. So it is offered whole.
-#[tactic(auto, using(crate::proofs::EventLemmas::one_piece))]
+/// A text of 1 to [`CAPACITY`](crate::CAPACITY) bytes is one piece. So it is offered whole.
 pub fn one_piece()
-    ensures { (text : ByteString) → 0 < length text → length text ≤ 8192 → pieces text ≡ text ∷ [] }
+    ensures piece { (text : ByteString) → 0 < length text → length text ≤ CAPACITY → pieces_of text ≡ text ∷ [] }
+{}
+
+/// What a line spells can be written again: the name isn't empty and has no NUL, and the digest is of its kind's
+/// length. So the line that is written of it spells it (`read_back`).
+pub fn entry_is_writable()
+    ensures writable { EntryIsWritable }
+{}
+
+/// What an output wrote of a text's events are the bytes of the text; what it wrote of a prefix of them is a prefix of
+/// the text.
+pub fn text_is_written()
+    ensures whole { (before after : OutputState) (text : ByteString)
+        → Gets before after (output_events text) → after.written ≡ before.written ++ text }
+    ensures prefix { (before after : OutputState) (text : ByteString)
+        → GetsPrefix before after (output_events text) → (front rest : ByteString)
+        × (text ≡ front ++ rest) × (after.written ≡ before.written ++ front) }
 {}

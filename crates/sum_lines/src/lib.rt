@@ -1,7 +1,7 @@
 //! Lines of checksums: how they are written to a sink, how a name is escaped in them, and how they are read.
 //!
 //! The format of a line and the sinks that lines are written to belong here, but nothing about files or whole
-//! manifests. The crate calls `digest_kinds`, `ghost_log`, `hex`, `itoa`, `memchr` and `std`, and it takes no memory.
+//! manifests. The crate takes no memory.
 //!
 //! ```rust
 //! let (reading, form) = read_line(Algos::Any, Form::Undecided, &mut line);
@@ -27,6 +27,6 @@ pub use sinks::sink::{Sink, SinkFault};
 pub use sinks::sink_log::{Flushed, Offer, SinkCalls, SinkLog};
 pub use sinks::told_sink::ToldSink;
 pub use sum_settings::{Mode, Style};
-pub use system::FromWrite;
+pub use system::from_write::FromWrite;
 pub use writing::parts::{Part, Parts, put_number, put_parts};
 pub use writing::put_line::{DigestLine, mark_and_name, put_line};

@@ -2,7 +2,6 @@
 //! whole texts are written.
 
 pub(crate) mod buffered;
-mod from_write;
 pub(crate) mod output;
 pub(crate) mod sink;
 pub(crate) mod sink_log;

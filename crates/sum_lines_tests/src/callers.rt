@@ -1,14 +1,12 @@
-//! What callers know of sinks, and of a line that is read.
-ghost use Rattle.std.specs.Prelude.{◌≡◌, ◌≤◌, ◌<◌, ◌+◌, ◌++◌, Some, Ok, IfOk, OnOk, OnErr, IsTrue, false, codes};
+//! What callers know of sinks, and of a comment that is read.
+ghost use Rattle.std.specs.Prelude.{◌≡◌, ◌≤◌, ◌<◌, ◌+◌, ◌++◌, Some, Ok, IfOk, OnOk, OnErr, IsTrue, codes};
 ghost use Rattle.std.specs.Prelude.{length, take};
-ghost use Rattle.sum_lines.specs.{Escape.escape, declared.reading.read_line.Form.TheVariants.Standard};
-ghost use Rattle.sum_lines.specs.grammar.Entries.{EntryValue, IsEntry, is_ignored};
 
 use digest_kinds::Algos;
 use std::alloc::Allocator;
 use std::io::Write;
 use sum_lines::{
-    Buffered, Form, FromWrite, Output, Reading, Sink, SinkFault, ToldSink, put_all, read_line,
+    Buffered, Form, FromWrite, Reading, Sink, SinkFault, ToldSink, put_all, read_line,
 };
 
 /// A sink in memory holds a text that it has room for, and no call has failed.
@@ -65,28 +63,9 @@ pub fn write_nothing<S: Sink>(sink: &mut S) -> Result<usize, SinkFault>
     sink.write(&[])
 }
 
-/// The bytes that an output wrote to a sink in memory: none of them is held back.
-pub fn bytes_of(output: &Output<ToldSink<64>>) -> &[u8]
-    ensures { result.now ≡ output.now.written }
-{
-    output.get_ref().bytes()
-}
-
 /// A comment is still in the vector after it was read.
 pub fn keeps_comments<A: Allocator>(algos: Algos, line: &mut Vec<u8, A>) -> bool
     ensures { IsTrue result → line.new.items ≡ line.old.items }
 {
     matches!(read_line(algos, Form::Undecided, line).0, Reading::Ignored)
-}
-
-/// Returns whether a line of a manifest in the form `Standard` is an entry: it is if it spells one, and isn't if it is
-/// ignored.
-pub fn spells_entry<A: Allocator>(algos: Algos, line: &mut Vec<u8, A>) -> bool
-    ensures entry { (s : EntryValue) → IsEntry escape algos Standard line.old.items s → IsTrue result }
-    ensures ignored { IsTrue (is_ignored line.old.items) → result ≡ false }
-{
-    matches!(
-        read_line(algos, Form::Standard, line).0,
-        Reading::Entry { .. }
-    )
 }

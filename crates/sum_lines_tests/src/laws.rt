@@ -1,25 +1,17 @@
-//! What follows from the laws of lines.
+//! What follows from a law of lines, and from the grammar alone.
 ghost use Rattle.digest_kinds.specs.{Bytes.ByteString, Kind.KindValue};
 ghost use Rattle.digest_kinds.specs.declared.algo.Algos.{Algos, TheVariants.Any};
-ghost use Rattle.std.specs.{Prelude.◌≡◌, Prelude.◌≤◌, Prelude.Bool, Prelude.false, Prelude.List, Prelude.◌∷◌};
-ghost use Rattle.std.specs.{Prelude.[], Prelude.length, Str.byte};
-ghost use Rattle.sum_lines.specs.Escape.{escape};
+ghost use Rattle.std.specs.{Prelude.◌≡◌, Prelude.Bool, Prelude.◌∷◌, Prelude.◌++◌, Prelude.codes, Prelude.false};
+ghost use Rattle.std.specs.{Prelude.[], Prelude.OnErr, Prelude.OnOk, Str.byte};
 ghost use Rattle.sum_lines.specs.declared.reading.read_line.Form.{Form, TheVariants.Undecided};
-ghost use Rattle.sum_lines.specs.grammar.{Entries.EntryValue, Entries.IsEntry, Form.IsForm, LineLaws.FitsGrammar};
-ghost use Rattle.sum_lines.specs.grammar.LineLaws.{IsWritable, SpellsBack};
-ghost use Rattle.sum_lines.specs.grammar.ParsedLines.{ParsedLine, entry, ignored, parse_line};
-ghost use Rattle.sum_lines.specs.{grammar.Shapes.IsTagged, sinks.Output.pieces, writing.DigestLine.line};
-ghost use Rattle.sum_settings.specs.declared.style.{Mode.TheVariants.Tag, Style.Style};
+ghost use Rattle.sum_lines.specs.{Escape.escape, grammar.Entries.EntryValue, grammar.Entries.IsEntry};
+ghost use Rattle.sum_lines.specs.grammar.{Form.IsForm, Form.form_of, LineLaws.FitsGrammar};
+ghost use Rattle.sum_lines.specs.grammar.ParsedLines.{ParsedLine, ignored};
+ghost use Rattle.sum_lines.specs.{grammar.Shapes.IsTagged};
+ghost use Rattle.sum_lines.specs.writing.PutLine.{digest_line};
+ghost use Rattle.sum_settings.specs.declared.style.Mode.TheVariants.{Tag};
 
-use sum_lines::laws;
-
-/// A line has one digest for one name.
-pub fn one_digest()
-    ensures { (algos : Algos) (f : Form) (line : ByteString) (s t : EntryValue)
-        → IsEntry escape algos f line s → IsEntry escape algos f line t → s.digest ≡ t.digest }
-{
-    laws::one_entry();
-}
+use sum_lines::{Output, Sink, SinkFault, Text, laws};
 
 /// A tagged line doesn't decide the form of a list, whichever algorithms the list may name.
 pub fn tagged_is_undecided()
@@ -30,42 +22,29 @@ pub fn tagged_is_undecided()
     laws::one_entry();
 }
 
-/// A list has no two forms.
-pub fn same_form()
-    ensures { (algos : Algos) (lines : List ByteString) (f g : Form)
-        → IsForm algos lines f → IsForm algos lines g → f ≡ g }
-{
-    laws::one_form();
-}
-
-/// If the grammar takes a line for an entry, that entry is what is computed.
-pub fn entry_is_computed()
-    ensures { (algos : Algos) (f : Form) (line : ByteString) (s : EntryValue)
-        → IsEntry escape algos f line s → parse_line algos f line ≡ entry s }
-{
-    laws::parse_is_grammar();
-}
-
 /// By the grammar alone, a line that begins with `#` is ignored.
 pub fn comment_is_ignored()
     ensures { (algos : Algos) (f : Form) (text : ByteString) (said : ParsedLine)
         → FitsGrammar algos f (byte "#" ∷ text) said → said ≡ ignored }
 {}
 
-/// A line of at most 8,192 bytes is offered whole.
-pub fn line_is_one_piece()
-    ensures { (style : Style) (kind : KindValue) (name digest : ByteString)
-        → length (line style kind name digest) ≤ 8192
-        → pieces (line style kind name digest) ≡ line style kind name digest ∷ [] }
+/// The tagged line of what a line spells is one line, and spells it again, whichever algorithms may be named.
+pub fn relabelled_line_is_read()
+    ensures { (algos : Algos) (f : Form) (text : ByteString) (found : EntryValue)
+        → IsEntry escape algos f text found → (prefix : ByteString)
+        × (digest_line (record { mode = Tag; zero = false }) found.kind found.name found.digest ≡ prefix ++ codes "\n")
+        × IsEntry escape Any (form_of Any (prefix ∷ [])) prefix found }
 {
-    laws::one_piece();
+    laws::entry_is_writable();
+    laws::read_back();
 }
 
-/// A list of one tagged line is read back if any algorithm may be named.
-pub fn tagged_is_read_back()
-    ensures { (kind : KindValue) (name digest : ByteString) → IsWritable kind name digest
-        → SpellsBack Any [] [] (line (record { mode = Tag; zero = false }) kind name digest)
-        kind name digest }
+/// Writes a text to an output. The bytes that its sink wrote grew by the text, or by a prefix of it.
+pub fn write_text<S: Sink, T: Text>(output: &mut Output<S>, text: &T) -> Result<(), SinkFault>
+    ensures ok { OnOk result (output.new.written ≡ output.old.written ++ T.text text.now) }
+    ensures err { OnErr result ((front rest : ByteString) × (T.text text.now ≡ front ++ rest)
+        × (output.new.written ≡ output.old.written ++ front)) }
 {
-    laws::read_back();
+    laws::text_is_written();
+    output.write(text)
 }

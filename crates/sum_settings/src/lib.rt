@@ -1,5 +1,6 @@
 //! What a call is asked to do, and why it stops early: what a command line is read into, and what the calls above take
-//! and return. Also how often an interrupted call of the system is tried again. Of our crates it calls `digest_kinds`.
+//! and return. A type belongs here if crates that don't call each other take or return it; so does how often an
+//! interrupted call of the system is tried again.
 //!
 //! ```rust
 //! let settings = CheckSettings {

@@ -20,8 +20,8 @@ impl<T: Drop> From<AllocFailed<T>> for NoRoom {
     }
 }
 
-/// Why a call stopped before its end. `Memory`: there was no memory for a line, or to open a file. `Write`: an output
-/// failed. The call writes nothing more.
+/// Why a call stopped before its end, and writes nothing more: `Memory` if there was none for a line or to open a file,
+/// and `Write` if an output failed.
 #[derive(Clone, Copy, Debug, PartialEq, Eq, Error)]
 pub enum Stop {
     #[error("memory exhausted")]

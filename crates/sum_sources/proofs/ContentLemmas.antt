@@ -1,14 +1,15 @@
 -- When a content is its own clip; and a content with more bytes in front.
-use Rattle.std.proofs.Common.{List, ℕ, ◌++◌, ◌≡◌, ◌^◌, ◌<◌, length, refl, arith}
-use Rattle.sum_sources.specs.inputs.Input.{Content, clip, limit}
+use Rattle.digest_kinds.specs.Bytes.{LIMIT}
+use Rattle.std.proofs.Common.{List, ℕ, ◌++◌, ◌≡◌, ◌<◌, length, refl, arith}
+use Rattle.sum_sources.specs.Content.{Content, clip, limit}
 
--- the limit as a number
-pub limit-value : limit ≡ 2 ^ 61
+-- the limit is the constant of the code
+pub limit-value : limit ≡ LIMIT
 unfolding limit
 limit-value = refl
 
 -- a short content is its own clip
-pub clip-short : (c : Content) → length c.bytes < 2 ^ 61 → clip c ≡ c
+pub clip-short : (c : Content) → length c.bytes < LIMIT → clip c ≡ c
 clip-short c short = grind (arith, limit-value)
 
 -- a content with these bytes in front

@@ -1,11 +1,18 @@
 -- Bytes cut at their newlines.
-use Rattle.std.{proofs.lemmas.List.Elements.All-nil, proofs.lemmas.List.Elements.All-cons, proofs.lemmas.List.Elements.All-head, proofs.lemmas.List.Elements.All-tail, specs.Char.is_newline, specs.Prelude.flat_map, proofs.Common.◌≡◌}
-use Rattle.std.proofs.{Common.ℕ, Common.List, Common.[], Common.◌∷◌, Common.◌++◌, Common.refl, Common.ap, Common.◌∙◌, Common.append_assoc, Common.inl, Common.inr, Common.false, Common.All, Common.arith, Common.rules, lemmas.Bool.Decides.eqb_tells}
-use Rattle.sum_sources.{proofs.LineLemmas.pieces-newline, proofs.LineLemmas.pieces-last, specs.ManifestLines.HasNoNewline, specs.ManifestLines.last_line, specs.ManifestLines.raw_lines, specs.declared.fault.Ending.Ending}
+use Rattle.std.specs.Str.{byte}
+use Rattle.std.{proofs.lemmas.List.Elements.All-nil, proofs.lemmas.List.Elements.All-cons}
+use Rattle.std.{proofs.lemmas.List.Elements.All-head, proofs.lemmas.List.Elements.All-tail, specs.Char.is_newline}
+use Rattle.std.{specs.Prelude.flat_map, proofs.Common.◌≡◌}
+use Rattle.std.proofs.{Common.ℕ, Common.List, Common.[], Common.◌∷◌, Common.◌++◌, Common.refl, Common.ap, Common.◌∙◌}
+use Rattle.std.proofs.{Common.append_assoc, Common.inl, Common.inr, Common.false, Common.All, Common.arith}
+use Rattle.std.proofs.{Common.rules, lemmas.Bool.Decides.eqb_tells}
+use Rattle.sum_sources.{proofs.LineLemmas.pieces-newline, proofs.LineLemmas.pieces-last}
+use Rattle.sum_sources.{specs.declared.fault.Ending.Ending}
+use Rattle.sum_sources.specs.LineReader.{HasNoNewline, last_line, raw_lines}
 
 -- these pieces, each ended by a newline, and then the tail
 abbrev pub bytes_of_lines : List (List ℕ) → List ℕ → List ℕ
-bytes_of_lines ended tail = flat_map (λ piece. piece ++ 10 ∷ []) ended ++ tail
+bytes_of_lines ended tail = flat_map (λ piece. piece ++ byte "\n" ∷ []) ended ++ tail
 
 -- the bytes can be cut
 abbrev pub IsCut : List ℕ → Type 0

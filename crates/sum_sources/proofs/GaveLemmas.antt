@@ -1,8 +1,15 @@
 -- What the openings of a name gave, after one more opening and after a closing.
-use Rattle.std.proofs.Common.{rules, ◌≡◌, ℕ, zero, suc, Bool, true, false, List, [], ◌∷◌, ◌++◌, length, slice_set, Option, None, Some, Result, Ok, IfSome, refl, ap, sym, ◌∙◌, append-nil, bytes_eq, arith}
-use Rattle.std.{proofs.lemmas.List.Elements.filter_map-append, proofs.lemmas.List.Sums.sum_by-cons, proofs.lemmas.Slice.Eq.bytes_eq-Decides, specs.Option.option_flatten, specs.Prelude.slice_get, specs.Prelude.if◌then◌else◌}
-use Rattle.sum_sources.specs.{Fault.Fault, inputs.HashInput.HashesInput, inputs.Input.Content, inputs.Input.Reads, inputs.Input.InputState, inputs.Input.HasContent, inputs.Input.IsSameInput, sources.HashFile.HashesOpened}
-use Rattle.sum_sources.specs.sources.Source.{AnswerValue, Opening, SourceState, ToldAnswers, IsOpen, FitsAnswer, GivesTold, names_of, times, results_of, openings_after_closing, opened_file, state_with_opening, state_after_closing}
+use Rattle.std.proofs.Common.{rules, ◌≡◌, ℕ, zero, suc, Bool, true, false, List, [], ◌∷◌, ◌++◌, length, slice_set}
+use Rattle.std.proofs.Common.{Option, None, Some, Result, Ok, IfSome, refl, ap, sym, ◌∙◌, append-nil, bytes_eq, arith}
+use Rattle.std.{proofs.lemmas.List.Elements.filter_map-append, proofs.lemmas.List.Sums.sum_by-cons}
+use Rattle.std.{proofs.lemmas.Slice.Eq.bytes_eq-Decides, specs.Option.option_flatten, specs.Prelude.slice_get}
+use Rattle.std.{specs.Prelude.if◌then◌else◌}
+use Rattle.sum_sources.specs.{Fault.Fault, inputs.HashInput.HashesInput, inputs.Input.Content, inputs.Input.Reads}
+use Rattle.sum_sources.specs.{inputs.Input.InputState, inputs.Input.HasContent, inputs.Input.IsSameInput}
+use Rattle.sum_sources.specs.{sources.HashFile.HashesOpened}
+use Rattle.sum_sources.specs.sources.Source.{AnswerValue, Opening, SourceState, ToldAnswers, IsOpen, FitsAnswer}
+use Rattle.sum_sources.specs.sources.Source.{GivesTold, names_of, times, results_of, openings_after_closing}
+use Rattle.sum_sources.specs.sources.Source.{opened_file, state_with_opening, state_after_closing}
 use Rattle.digest_kinds.specs.Kind.{KindValue}
 
 -- names that the test finds equal are equal
@@ -66,7 +73,7 @@ gave-seam before later name gave =
 pub is_open_last : (tells : ToldAnswers) (a m : SourceState) (name : List ℕ) (s t : InputState)
     → s ≡ opened_file tells a name → m ≡ state_with_opening a name None → IsSameInput s t → IsOpen tells m t
 is_open_last tells a m name s t is opens same =
-    let here = gave-seam a.openings [] name None in rw (same, is, opens) (record { opening = here; told = refl })
+    let here = gave-seam a.openings [] name None in rw (same, is, opens) (record { is_open = here; told = refl })
 
 -- a closing keeps the names
 pub names-closed : (os : List Opening) (name : List ℕ) (k : ℕ) (r : Reads)
@@ -124,12 +131,12 @@ open_gives tells s name =
 
 -- a source gives what it tells after a closing, if the file is in memory
 pub closing_gives : (tells : ToldAnswers) (s : SourceState) (file : InputState) (c : Content) → HasContent file
-    → file.told ≡ Some c → tells s.told file.name file.opening ≡ Some (Ok c) → GivesTold tells s
+    → file.told ≡ Some c → tells s.told file.name file.nth ≡ Some (Ok c) → GivesTold tells s
     → GivesTold tells (state_after_closing s file)
 closing_gives tells s file c has told is was other j =
-    rw (gave-closing s.openings file.name file.opening file.reads other) (true_or_false (bytes_eq file.name other)
+    rw (gave-closing s.openings file.name file.nth file.reads other) (true_or_false (bytes_eq file.name other)
     (λ one. rw (one, ← same_name file.name other one)
-    (gives-closed (λ k g. IfSome (tells s.told file.name k) (λ told. IfSome g (FitsAnswer told))) _ file.opening j
+    (gives-closed (λ k g. IfSome (tells s.told file.name k) (λ told. IfSome g (FitsAnswer told))) _ file.nth j
     file.reads (rw is (of_content file c has told)) (was file.name j)))
     (λ two. rw two (was other j)))
 

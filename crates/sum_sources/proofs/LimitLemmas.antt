@@ -1,9 +1,14 @@
 -- `read_limited`: what an input's end, its fault and the limit say of its contents.
-use Rattle.std.proofs.Common.{◌≡◌, ℕ, zero, suc, ◌+◌, ◌-◌, ◌^◌, ◌<◌, ◌≤◌, [], ◌∷◌, ◌++◌, List, max, length, take, Result, Ok, Err, refl, arith, length-append, ap, append-nil, append_assoc, sym, ◌∙◌}
-use Rattle.std.{proofs.Math.Seq.take-append_seam, proofs.lemmas.List.length-take-le, proofs.lemmas.List.take-append-le, proofs.lemmas.List.drop-append-le, specs.Result.result_unwrap_or}
-use Rattle.sum_sources.specs.{Fault.Ending, Fault.Whole, Fault.Other, Fault.Fault, Fault.Broken, private.SizeLimit.FindsEnding, private.SizeLimit.AddsLimited}
+use Rattle.digest_kinds.specs.Bytes.{LIMIT}
+use Rattle.std.proofs.Common.{◌≡◌, ℕ, zero, suc, ◌+◌, ◌-◌, ◌<◌, ◌≤◌, [], ◌∷◌, ◌++◌, List, max, length, take, Result, Ok}
+use Rattle.std.proofs.Common.{Err, refl, arith, length-append, ap, append-nil, append_assoc, sym, ◌∙◌}
+use Rattle.std.{proofs.Math.Seq.take-append_seam, proofs.lemmas.List.length-take-le, proofs.lemmas.List.take-append-le}
+use Rattle.std.{proofs.lemmas.List.drop-append-le, specs.Result.result_unwrap_or}
+use Rattle.sum_sources.specs.{Fault.Ending, Fault.Whole, Fault.Other, Fault.Fault, Fault.Broken}
+use Rattle.sum_sources.specs.{private.SizeLimit.FindsEnding, private.SizeLimit.AddsLimited}
 use Rattle.sum_sources.proofs.ContentLemmas.{limit-value, clip-short}
-use Rattle.sum_sources.specs.inputs.Input.{Content, Reads, InputState, Fits, clip, state_after_read, reads_past, limit, Ended, Unfinished}
+use Rattle.sum_sources.specs.inputs.Input.{Content, Reads, InputState, Fits, clip, state_after_read, reads_past, limit}
+use Rattle.sum_sources.specs.inputs.Input.{Ended, Unfinished}
 
 -- an input, of which the bytes past the first m count
 abbrev pub past : ℕ → InputState → InputState
@@ -21,7 +26,7 @@ pub past_read : (m : ℕ) (a b : InputState) (given : List ℕ) (r : Result ℕ 
     → b ≡ state_after_read a given r → past m b ≡ state_after_read (past m a) given r
 past_read m a b given r low is = rw (is, drop-append-le m a.reads.bytes (take (result_unwrap_or r 0) given) low) refl
 
-module _ (a b : InputState) (t : ℕ) (going : a.reads.phase ≡ Unfinished) (few : t < 2 ^ 61) where
+module _ (a b : InputState) (t : ℕ) (going : a.reads.phase ≡ Unfinished) (few : t < LIMIT) where
   -- the ending was read, so it was found
   finds_ending : (e : Ending) → b.reads ≡ record { bytes = a.reads.bytes; phase = Ended e }
       → FindsEnding t a.reads b.reads e
@@ -33,7 +38,7 @@ module _ (a b : InputState) (t : ℕ) (going : a.reads.phase ≡ Unfinished) (fe
   }
 
   -- a byte was read that reaches the limit, so the fault for that was found
-  finds_limit : (more : List ℕ) → t + 1 ≡ 2 ^ 61 → length more ≡ 1
+  finds_limit : (more : List ℕ) → t + 1 ≡ LIMIT → length more ≡ 1
       → b.reads ≡ record a.reads { bytes = a.reads.bytes ++ more } → FindsEnding t a.reads b.reads (Broken Other)
   finds_limit more last one is = record {
     content = λ size c of. let (rest, begins) = rw (is, going) at of in cut size c rest begins;
@@ -59,8 +64,8 @@ module _ (a b : InputState) (t : ℕ) (going : a.reads.phase ≡ Unfinished) (fe
   read_fails f (x ∷ xs) some is = finds_ending (Broken f) (rw (is, going, append-nil) refl)
 
   -- the byte that was read reached the limit, so the fault for that was found
-  pub read_reaches : (n : ℕ) (given : List ℕ) → 0 < length given → n ≤ length given → t + n ≡ 2 ^ 61
-      → length given ≤ max (2 ^ 61 - 1 - t) 1 → b ≡ state_after_read a given (Ok n)
+  pub read_reaches : (n : ℕ) (given : List ℕ) → 0 < length given → n ≤ length given → t + n ≡ LIMIT
+      → length given ≤ max (LIMIT - 1 - t) 1 → b ≡ state_after_read a given (Ok n)
       → FindsEnding t a.reads b.reads (Broken Other)
   read_reaches n [] some fits last bound is = absurd (omega arith)
   read_reaches zero (x ∷ xs) some fits last bound is = absurd (omega (arith, few))

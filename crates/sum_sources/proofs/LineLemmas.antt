@@ -1,9 +1,13 @@
 -- Pieces and lines at the steps of the line reader.
-use Rattle.std.proofs.Common.{◌≡◌, ℕ, ◌<◌, false, List, [], ◌∷◌, ◌++◌, length, map, Ok, Err, refl, ap, append_assoc, arith, rules}
-use Rattle.std.proofs.lemmas.{Grind.common_steps, List.append-nil, List.Elements.All-head, List.Elements.All-tail, List.Splits.slice_split_at, List.Splits.slice_split_none, List.Splits.length-slice_split}
+use Rattle.std.specs.Str.{byte}
+use Rattle.std.proofs.Common.{◌≡◌, ℕ, ◌<◌, false, List, [], ◌∷◌, ◌++◌, length, map, Ok, Err, refl, ap, append_assoc}
+use Rattle.std.proofs.Common.{arith, rules}
+use Rattle.std.proofs.lemmas.{Grind.common_steps, List.append-nil, List.Elements.All-head, List.Elements.All-tail}
+use Rattle.std.proofs.lemmas.{List.Splits.slice_split_at, List.Splits.slice_split_none, List.Splits.length-slice_split}
 use Rattle.std.specs.{Char.is_newline, List.after_first, Str.Lines.strip_carriage_return}
-use Rattle.sum_sources.specs.ManifestLines.{Line, last_line, raw_lines, lines, past_line, HasNoNewline, IsNextLine}
-use Rattle.sum_sources.{specs.Fault.Fault, specs.Fault.Ending, specs.Fault.Broken, specs.inputs.Input.Content, specs.inputs.Input.empty_content, proofs.ContentLemmas.with_prefix}
+use Rattle.sum_sources.specs.LineReader.{Line, last_line, raw_lines, lines_in, past_line, HasNoNewline, IsNextLine}
+use Rattle.sum_sources.{specs.Fault.Fault, specs.Fault.Ending, specs.Fault.Broken, specs.inputs.Input.Content}
+use Rattle.sum_sources.{specs.inputs.Input.empty_content, proofs.ContentLemmas.with_prefix}
 use Rattle.sum_sources.specs.declared.line_reader.LineStop.TheVariants as stops
 
 -- a newline ends the first piece
@@ -32,13 +36,13 @@ pub past_line-piece : (piece : List ℕ) (d : Content) → HasNoNewline piece
 past_line-piece piece d none = rw (after_piece piece d.bytes none) refl
 
 -- a content without bytes has no line
-pub lines-nil : (e : Ending) → lines (record { bytes = []; ending = e }) ≡ []
+pub lines-nil : (e : Ending) → lines_in (record { bytes = []; ending = e }) ≡ []
 unfolding raw_lines
 lines-nil e = grind arith
 
 -- a newline ends the first line
 pub IsNextLine-ended : (d : Content) (piece : List ℕ) → HasNoNewline piece
-    → IsNextLine (with_prefix (piece ++ 10 ∷ []) d) d (Ok Line) (strip_carriage_return piece)
+    → IsNextLine (with_prefix (piece ++ byte "\n" ∷ []) d) d (Ok Line) (strip_carriage_return piece)
 IsNextLine-ended d piece none = grind (arith, append_assoc, after_piece, pieces-newline)
 
 -- a last piece that isn't empty is the only line left
@@ -55,9 +59,9 @@ IsNextLine-fault f piece none =
 
 -- a content that has a line has a byte
 some_bytes : (bytes line : List ℕ) (e : Ending) (ls : List (List ℕ))
-    → lines (record { bytes = bytes; ending = e }) ≡ line ∷ ls → 0 < length bytes
+    → lines_in (record { bytes = bytes; ending = e }) ≡ line ∷ ls → 0 < length bytes
 some_bytes bytes line e ls is = grind (arith, common_steps, lines-nil)
 
 -- so has one before its first line
 pub line-some : (c d : Content) (line : List ℕ) → IsNextLine c d (Ok Line) line → 0 < length c.bytes
-line-some c d line is = some_bytes c.bytes line c.ending (lines d) is.0
+line-some c d line is = some_bytes c.bytes line c.ending (lines_in d) is.0

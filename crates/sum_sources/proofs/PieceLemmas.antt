@@ -1,9 +1,10 @@
 -- The piece of a line in the reader's buffer.
 use Rattle.std.{specs.Char.is_newline, proofs.lemmas.Bool.false_from_ne_true, proofs.Math.Seq.split_at}
-use Rattle.std.proofs.Common.{◌≡◌, ℕ, ◌+◌, ◌-◌, ◌<◌, ◌≤◌, List, ◌∷◌, ◌++◌, length, take, drop, get_or, false, refl, ◌∙◌, arith, add-one, length-take, length-drop}
+use Rattle.std.proofs.Common.{◌≡◌, ℕ, ◌+◌, ◌-◌, ◌<◌, ◌≤◌, List, ◌∷◌, ◌++◌, length, take, drop, get_or, false, refl, ◌∙◌}
+use Rattle.std.proofs.Common.{arith, add-one, length-take, length-drop}
 use Rattle.std.proofs.lemmas.List.{Elements.All-from_get_or, length-take-le, get_or-take, drop-take, drop-drop}
 use Rattle.memchr.specs.Find.{Nowhere, Passes, is_byte}
-use Rattle.sum_sources.specs.ManifestLines.{HasNoNewline}
+use Rattle.sum_sources.specs.LineReader.{HasNoNewline}
 
 -- the bytes before the first newline that is found have none
 pub plain_prefix : (bytes : List ℕ) (n : ℕ) → n ≤ length bytes → Nowhere (Passes (is_byte 10) bytes) 0 n

@@ -1,12 +1,22 @@
 -- What was read so far of a line, and what reading on adds to it.
-use Rattle.std.proofs.Common.{rules, ◌≡◌, ℕ, zero, suc, ◌+◌, ◌-◌, ◌^◌, ◌<◌, ◌≤◌, true, false, List, [], ◌∷◌, ◌++◌, length, take, drop, None, Some, Result, subst, length-drop, Ok, Err, refl, ap, sym, ◌∙◌, append_assoc, arith, length-append}
-use Rattle.std.proofs.{Math.Seq.take-append-add, Math.Seq.drop-append_seam, lemmas.List.drop_all, lemmas.List.Elements.All-append}
+use Rattle.std.specs.Str.{byte}
+use Rattle.digest_kinds.specs.Bytes.{LIMIT}
+use Rattle.std.proofs.Common.{rules, ◌≡◌, ℕ, zero, suc, ◌+◌, ◌-◌, ◌<◌, ◌≤◌, true, false, List, [], ◌∷◌, ◌++◌, length}
+use Rattle.std.proofs.Common.{take, drop, None, Some, Result, subst, length-drop, Ok, Err, refl, ap, sym, ◌∙◌}
+use Rattle.std.proofs.Common.{append_assoc, arith, length-append}
+use Rattle.std.proofs.{Math.Seq.take-append-add, Math.Seq.drop-append_seam, lemmas.List.drop_all}
+use Rattle.std.proofs.{lemmas.List.Elements.All-append}
 use Rattle.std.specs.{Char.is_newline, Prelude.nat_lt, Prelude.if◌then◌else◌, Str.Lines.strip_carriage_return}
-use Rattle.sum_sources.specs.LineReader.{LineReaderValue, consumed_count, content_past, reads_of, remaining_content, IsUnderWay, IsReading, ReadsOn, FillsReader, TakesPiece}
+use Rattle.sum_sources.specs.LineReader.{LineReaderValue, consumed_count, content_past, reads_of, remaining_content}
+use Rattle.sum_sources.specs.LineReader.{IsUnderWay, IsReading, ReadsOn, TakesNextLine}
+use Rattle.sum_sources.specs.private.LineReader.{FillsReader, TakesPiece}
 use Rattle.sum_sources.specs.inputs.Input.{Content, InputState, Reads, Fits, Ended, Past, clip, limit, reads_past}
-use Rattle.sum_sources.specs.ManifestLines.{Next, Line, NoMore, LineStop, HasNoNewline, IsNextLine, past_line}
-use Rattle.sum_sources.specs.{Fault.Ending, Fault.Whole, Fault.Broken, Fault.Fault, Fault.Other, private.SizeLimit.FindsEnding, private.SizeLimit.AddsLimited, private.SizeLimit.AddsPast, private.SizeLimit.CountsBytes}
-use Rattle.sum_sources.proofs.{LineLemmas.lines-nil, LineLemmas.past_line-piece, LineLemmas.IsNextLine-ended, ContentLemmas.with_prefix, ContentLemmas.limit-value, LimitLemmas.before_more}
+use Rattle.sum_sources.specs.LineReader.{Next, Line, NoMore, LineStop, HasNoNewline, IsNextLine, past_line}
+use Rattle.sum_sources.specs.{Fault.Ending, Fault.Whole, Fault.Broken, Fault.Fault, Fault.Other}
+use Rattle.sum_sources.specs.{private.SizeLimit.FindsEnding, private.SizeLimit.AddsLimited, private.SizeLimit.AddsPast}
+use Rattle.sum_sources.specs.{private.SizeLimit.CountsBytes}
+use Rattle.sum_sources.proofs.{LineLemmas.lines-nil, LineLemmas.past_line-piece, LineLemmas.IsNextLine-ended}
+use Rattle.sum_sources.proofs.{ContentLemmas.with_prefix, ContentLemmas.limit-value, LimitLemmas.before_more}
 use Rattle.sum_sources.specs.declared.line_reader.LineStop.TheVariants as stops
 
 -- the content without bytes that has this ending
@@ -14,7 +24,7 @@ abbrev just : Ending → Content
 just e = record { bytes = []; ending = e }
 
 -- a content keeps its front, if that is shorter than the limit
-clip-prefix : (front : List ℕ) (rest : Content) → length front < 2 ^ 61
+clip-prefix : (front : List ℕ) (rest : Content) → length front < LIMIT
     → (d : Content) × (clip (with_prefix front rest) ≡ with_prefix front d)
 clip-prefix front rest few =
     let k = limit - length front in
@@ -55,7 +65,7 @@ module _ {I : Type 0} {state : I → InputState} {r : LineReaderValue I} (u : Is
       ∙ drop-append_seam (reads_of state r).bytes d.bytes in
       rw (is, keeps, over) refl
 
-  begins : r.taken < 2 ^ 61 → (c : Content) → Fits (reads_of state r) c
+  begins : r.taken < LIMIT → (c : Content) → Fits (reads_of state r) c
       → remaining_content r c ≡ with_prefix r.ahead (content_past r.taken (clip c))
   begins few c of =
       let (rest, is) = rw u.phase at of in
@@ -92,11 +102,11 @@ module _ {I : Type 0} {state : I → InputState} {old s s' : LineReaderValue I} 
     (h : HasRead state old s bytes)
   where
     -- a piece that was ahead was consumed, too
-    pub HasRead-more : (more ahead : List ℕ) → s'.taken < 2 ^ 61 → s' ≡ record s { ahead = ahead }
+    pub HasRead-more : (more ahead : List ℕ) → s'.taken < LIMIT → s' ≡ record s { ahead = ahead }
         → s.ahead ≡ more ++ ahead → HasRead state old s' (bytes ++ more)
     HasRead-more more ahead below moved is =
         let u = h.under_way in
-        let few : s.taken < 2 ^ 61 = rw moved at below in
+        let few : s.taken < LIMIT = rw moved at below in
         let size = few_ahead u in
         let count : s.taken - length ahead ≡ consumed_count s + length more =
         omega (arith, size, ap length is, length-append more ahead) in
@@ -144,17 +154,14 @@ next_of r line p q h = rw (p, q) h
 
 -- a newline in the buffer ended the line
 pub ends_line : {I : Type 0} {state : I → InputState} {old s s' : LineReaderValue I} {line line' : List ℕ}
-    → HasRead state old s line → HasNoNewline line → s' ≡ record s { ahead = s'.ahead } → s'.taken < 2 ^ 61
+    → HasRead state old s line → HasNoNewline line → s' ≡ record s { ahead = s'.ahead } → s'.taken < LIMIT
     → s'.final_answer ≡ None → TakesPiece true s.ahead s'.ahead line line'
-    → ReadsOn state old s' (Ok Line) (strip_carriage_return line')
+    → ReadsOn state old s' (TakesNextLine old s' (Ok Line) (strip_carriage_return line'))
 ends_line {state = state} {old = old} {s' = s'} {line = line} {line' = line'} h none same few going
     (piece, plain, cut, is) =
-    let read : HasRead state old s' (line' ++ 10 ∷ []) =
-    rw (is, append_assoc) (HasRead-more h (piece ++ 10 ∷ []) s'.ahead few same (rw append_assoc cut)) in
+    let read : HasRead state old s' (line' ++ byte "\n" ∷ []) =
+    rw (is, append_assoc) (HasRead-more h (piece ++ byte "\n" ∷ []) s'.ahead few same (rw append_assoc cut)) in
     record {
-      line = λ c of. next_of (Ok Line) _ (read.remains c of) refl
-          (IsNextLine-ended _ line' (rw is (All-append (λ b. is_newline b ≡ false) line piece none plain)));
-      sum = λ next is c of. adds_up _ _ _ _ (read.remains c of) read.count;
       reading = record {
         under_way = λ going. read.under_way;
         final = λ answer final. cc;
@@ -162,6 +169,11 @@ ends_line {state = state} {old = old} {s' = s'} {line = line} {line' = line'} h 
         past = rw read.under_way.phase (λ past. cc);
       };
       before = read.before;
+      holds = λ c of. record {
+        line = next_of (Ok Line) _ (read.remains c of) refl
+            (IsNextLine-ended _ line' (rw is (All-append (λ b. is_newline b ≡ false) line piece none plain)));
+        sum = λ no_fault. adds_up _ _ _ _ (read.remains c of) read.count;
+      };
     }
 
 -- ---- an answer is final
@@ -182,21 +194,23 @@ settled answer final right end past = record {
 
 -- memory was refused for a line without a newline so far, and something remained
 pub ends_memory : {I : Type 0} {state : I → InputState} {old s n : LineReaderValue I} {line : List ℕ}
-    → HasRead state old s line → HasNoNewline line → s.taken < 2 ^ 61 → 0 < length s.ahead
+    → HasRead state old s line → HasNoNewline line → s.taken < LIMIT → 0 < length s.ahead
     → n ≡ record s { final_answer = Some (Err stops.Memory) } → (bytes : List ℕ)
-    → ReadsOn state old n (Err stops.Memory) bytes
+    → ReadsOn state old n (TakesNextLine old n (Err stops.Memory) bytes)
 ends_memory {state = state} {s = s} {line = begun} h none few some is bytes =
     let left : (c : Content) → Fits (reads_of state s) c → 0 < length (remaining_content s c).bytes = λ c of.
     omega (arith, some, ap (λ (c : Content). length c.bytes) (begins h.under_way few c of), length-append {A = ℕ}) in
     rw is (record {
-      line = λ c of. (
-        omega (arith, left c of, h.count, adds_up _ _ _ _ (h.remains c of) h.count),
-        past_line-piece begun (remaining_content s c) none ∙ sym (ap past_line (h.remains c of)),
-      );
-      sum = λ next is. cc;
       reading = settled (Err stops.Memory) refl (λ bytes c of. (left c of, refl)) (λ is. cc)
           (rw h.under_way.phase (λ past. cc));
       before = h.before;
+      holds = λ c of. let sum = adds_up _ _ _ _ (h.remains c of) h.count in record {
+        line = (
+          omega (arith, left c of, h.count, sum),
+          past_line-piece begun (remaining_content s c) none ∙ sym (ap past_line (h.remains c of)),
+        );
+        sum = λ no_fault. sum;
+      };
     })
 
 -- what every later call returns after an ending
@@ -218,7 +232,8 @@ pub ReadsOn-ending : {I : Type 0} {state : I → InputState} {old s : LineReader
     → HasRead state old s line → s.ahead ≡ []
     → FindsEnding s.taken (reads_of state s) (reads_of state m) e → length m.ahead ≡ 0 → s.taken ≤ m.taken
     → n ≡ record m { final_answer = Some (answer_by e) } → IsNextLine (with_prefix line (just e)) (just e) answer bytes
-    → ((next : Next) → answer ≡ Ok next → m.taken ≡ s.taken) → ReadsOn state old n answer bytes
+    → (((f : Fault) → ¬ (answer ≡ Err (stops.Fault f))) → m.taken ≡ s.taken)
+    → ReadsOn state old n (TakesNextLine old n answer bytes)
 ReadsOn-ending {state = state} {old = old} {s = s} m {line = line} e answer h none finds none' more is next same =
     let taken = h.under_way.taken in
     let now : (c : Content) → Fits (reads_of state m) c → remaining_content m c ≡ just e =
@@ -227,27 +242,51 @@ ReadsOn-ending {state = state} {old = old} {s = s} m {line = line} e answer h no
     λ c of. h.remains c (finds.before c of) ∙ ap (with_prefix line)
     (over _ _ e (finds.content taken c of) (omega (arith, taken, ap length none))) in
     rw is (record {
-      line = λ c of. next_of answer _ (was c of) (now c of) next;
-      sum = λ next ok c of. adds_up _ _ _ line (was c of ∙ ap (with_prefix line) (sym (now c of)))
-          (omega (arith, h.count, same next ok, none', ap length none));
       reading = settled (answer_by e) refl
           (λ line c of. next_of (answer_by e) line (now c of) (now c of) (no_line e line))
           (λ is. finds.end (whole_by e is)) finds.past;
       before = λ c of. h.before c (finds.before c of);
+      holds = λ c of. record {
+        line = next_of answer _ (was c of) (now c of) next;
+        sum = λ no_fault. adds_up _ _ _ line (was c of ∙ ap (with_prefix line) (sym (now c of)))
+            (omega (arith, h.count, same no_fault, none', ap length none));
+      };
     })
 
 -- counting a line changes nothing else
 pub counted : {I : Type 0} {state : I → InputState} {old new : LineReaderValue I} {result : Result Next LineStop}
-    {bytes : List ℕ} (n : ℕ) → ReadsOn state old new result bytes
-    → ReadsOn state old (record new { lines = n }) result bytes
-counted n h = let was = h.reading in search (rules, h.line, h.sum, h.before, was.under_way, was.final)
+    {bytes : List ℕ} (n : ℕ) → ReadsOn state old new (TakesNextLine old new result bytes)
+    → let after = record new { lines = n } in ReadsOn state old after (TakesNextLine old after result bytes)
+counted n h = record {
+  reading = let was = h.reading in search (rules, was.under_way, was.final);
+  before = h.before;
+  holds = λ c of. let took = h.holds c of in record { line = took.line; sum = took.sum };
+}
 
 -- a final answer is returned again
 pub settled_again : {I : Type 0} {state : I → InputState} {r : LineReaderValue I} (answer : Result Next LineStop)
-    (bytes : List ℕ) → r.final_answer ≡ Some answer → IsReading state r → ReadsOn state r r answer bytes
+    (bytes : List ℕ) → r.final_answer ≡ Some answer → IsReading state r
+    → ReadsOn state r r (TakesNextLine r r answer bytes)
 settled_again answer bytes is reading = record {
-  line = reading.final answer is bytes;
-  sum = λ next is c of. refl;
   reading = reading;
   before = λ c of. of;
+  holds = λ c of. record { line = reading.final answer is bytes c of; sum = λ no_fault. refl };
+}
+
+-- ---- what a caller keeps
+
+-- what follows holds, too
+pub ReadsOn-map : {I : Type 0} {state : I → InputState} {old new : LineReaderValue I}
+    {P Q : Content → Content → Type 0} → ReadsOn state old new P → ((c d : Content) → P c d → Q c d)
+    → ReadsOn state old new Q
+ReadsOn-map h f = record { reading = h.reading; before = h.before; holds = λ c of. f _ _ (h.holds c of) }
+
+-- one call reads on, and then another
+pub ReadsOn-then : {I : Type 0} {state : I → InputState} {a b c : LineReaderValue I}
+    {P Q R : Content → Content → Type 0} → ReadsOn state a b P → ReadsOn state b c Q
+    → ((x y z : Content) → P x y → Q y z → R x z) → ReadsOn state a c R
+ReadsOn-then h k f = record {
+  reading = k.reading;
+  before = λ content of. h.before content (k.before content of);
+  holds = λ content of. f _ _ _ (h.holds content (k.before content of)) (k.holds content of);
 }

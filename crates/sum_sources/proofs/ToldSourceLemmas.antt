@@ -2,16 +2,18 @@
 use Rattle.std.proofs.Common.{◌≡◌, ◌≤◌, ℕ, true, false, List, [], ◌∷◌, ◌++◌, length, refl, arith, bytes_eq, nat_le}
 use Rattle.std.{proofs.lemmas.Bool.Decides.nat_tests, proofs.lemmas.Option.slice_get_past, specs.Prelude.◌&&◌}
 use Rattle.sum_sources.proofs.GaveLemmas.{true_or_false, same_name, gave-times}
-use Rattle.sum_sources.specs.sources.Source.{Pair, SourceState, GivesTold, results_of, names_of, times, first_answer, answer_of_first}
+use Rattle.sum_sources.specs.sources.Source.{ToldAnswer, SourceState, GivesTold, results_of, names_of, times}
+use Rattle.sum_sources.specs.sources.Source.{first_answer, answer_of_first}
 
 -- a pair that doesn't fit changes no answer
-first_append : (ps : List Pair) (p : Pair) (name : List ℕ) (k : ℕ) → (bytes_eq p.name name && nat_le p.from k) ≡ false
+first_append : (ps : List ToldAnswer) (p : ToldAnswer) (name : List ℕ) (k : ℕ)
+    → (bytes_eq p.name name && nat_le p.from k) ≡ false
     → first_answer (ps ++ p ∷ []) name k ≡ first_answer ps name k
 first_append [] p name k other = rw other refl
 first_append (q ∷ ps) p name k other = rw (first_append ps p name k other) refl
 
 -- a source gives what it tells after a pair is added that answers for no earlier opening
-pub adding_gives : (s : SourceState) (p : Pair) → p.from ≡ times p.name (names_of s.openings)
+pub adding_gives : (s : SourceState) (p : ToldAnswer) → p.from ≡ times p.name (names_of s.openings)
     → GivesTold answer_of_first s → GivesTold answer_of_first (record s { told = s.told ++ p ∷ [] })
 adding_gives s p from was name k = true_or_false (bytes_eq p.name name && nat_le p.from k)
     (λ fits. rw (slice_get_past (results_of s.openings name) k (late fits)) tt)

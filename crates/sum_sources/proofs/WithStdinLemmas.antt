@@ -1,13 +1,22 @@
 -- `WithStdin`: what an opening and a closing keep.
-use Rattle.std.proofs.Common.{◌≡◌, ℕ, true, false, List, [], ◌∷◌, ◌++◌, length, append-nil, Option, None, Some, Result, Ok, IfSome, refl, ap, sym, ◌∙◌, codes, bytes_eq, arith}
+use Rattle.std.proofs.Common.{◌≡◌, ℕ, true, false, List, [], ◌∷◌, ◌++◌, length, append-nil, Option, None, Some, Result}
+use Rattle.std.proofs.Common.{Ok, IfSome, refl, ap, sym, ◌∙◌, codes, bytes_eq, arith}
 use Rattle.std.proofs.lemmas.{List.Elements.filter-append, Slice.Eq.bytes_eq-Decides}
-use Rattle.std.specs.{Option.option_and_then, Option.option_map, Prelude.◌==◌, Prelude.not, Prelude.if◌then◌else◌, Prelude.slice_get, Result.result_ok}
-use Rattle.sum_sources.specs.sources.Source.{AnswerValue, Opening, SourceState, ToldAnswers, names_of, times, results_of, openings_after_closing, opened_file, IsOpen, FitsAnswer}
-use Rattle.sum_sources.proofs.GaveLemmas.{same_name, none_agrees, of_content, gives-more, gives-closed, gave-times, gave-append, gave-opening, gave-closing}
-use Rattle.sum_sources.specs.sources.WithStdin.{is_dash, first_or_later, answer_of_both, with_stdin_state, state_without_dash, other_openings, IsPlaceOf, GivesStdin, IsSoundWithStdin}
-use Rattle.sum_sources.specs.inputs.Input.{Content, InputState, Reads, HasContent, empty_reads, empty_content, Unfinished}
-use Rattle.sum_sources.specs.inputs.Stdin.{is_untaken, StdinPlace, GivesUnread, given_input, closable_state, stdin_after_taking, stdin_after_put_back}
-use Rattle.sum_sources.specs.{Fault.Fault, Fault.Whole, declared.inputs.stdin.Closable.Closable, declared.inputs.stdin.Closable.TheVariants.Closed, sources.SourceLaws.results-both}
+use Rattle.std.specs.{Option.option_and_then, Option.option_map, Prelude.◌==◌, Prelude.not, Prelude.if◌then◌else◌}
+use Rattle.std.specs.{Prelude.slice_get, Result.result_ok}
+use Rattle.sum_sources.specs.sources.Source.{AnswerValue, Opening, SourceState, ToldAnswers, names_of, times}
+use Rattle.sum_sources.specs.sources.Source.{results_of, openings_after_closing, opened_file, IsOpen, FitsAnswer}
+use Rattle.sum_sources.proofs.GaveLemmas.{same_name, none_agrees, of_content, gives-more, gives-closed, gave-times}
+use Rattle.sum_sources.proofs.GaveLemmas.{gave-append, gave-opening, gave-closing}
+use Rattle.sum_sources.specs.sources.WithStdin.{is_dash, first_or_later, answer_of_both, with_stdin_state}
+use Rattle.sum_sources.specs.sources.WithStdin.{state_without_dash, other_openings, IsUntakenUnlessOpened, GivesStdin}
+use Rattle.sum_sources.specs.sources.WithStdin.{IsSoundWithStdin}
+use Rattle.sum_sources.specs.inputs.Input.{Content, InputState, Reads, HasContent, empty_reads, empty_content}
+use Rattle.sum_sources.specs.inputs.Input.{Unfinished}
+use Rattle.sum_sources.specs.inputs.Stdin.{is_untaken, StdinValue, GivesUnread, given_input, closable_state}
+use Rattle.sum_sources.specs.inputs.Stdin.{stdin_after_taking, stdin_after_put_back}
+use Rattle.sum_sources.specs.{Fault.Fault, Fault.Whole, declared.inputs.stdin.Closable.Closable}
+use Rattle.sum_sources.specs.{declared.inputs.stdin.Closable.TheVariants.Closed, sources.SourceLaws.results-both}
 
 -- names that differ also differ the other way round
 turned : (a b : List ℕ) → bytes_eq a b ≡ false → bytes_eq b a ≡ false
@@ -45,7 +54,7 @@ other_openings-closing [] name k r = grind arith
 other_openings-closing (o ∷ os) name k r = grind (arith, other_openings-closing os, bytes_eq-Decides)
 
 -- the invariant holds at first: nothing was read of standard input
-pub kept_new : {I : Type 0} (state : I → InputState) (stdin : StdinPlace I) (source : SourceState)
+pub kept_new : {I : Type 0} (state : I → InputState) (stdin : StdinValue I) (source : SourceState)
     → is_untaken stdin ≡ true → IsSoundWithStdin state stdin stdin (state_without_dash source).openings source.openings
 kept_new state stdin source untaken = record {
   untaken = untaken;
@@ -54,7 +63,7 @@ kept_new state stdin source untaken = record {
   files = other_openings-again source.openings;
 }
 
-module _ {I : Type 0} {state : I → InputState} {first stdin : StdinPlace I} {os fs : List Opening}
+module _ {I : Type 0} {state : I → InputState} {first stdin : StdinValue I} {os fs : List Opening}
     (kept : IsSoundWithStdin state first stdin os fs)
   where
     -- the invariant is kept if another name than `-` was opened in the source
@@ -73,7 +82,7 @@ module _ {I : Type 0} {state : I → InputState} {first stdin : StdinPlace I} {o
         }
 
     -- the invariant is kept if `-` was opened
-    pub kept_stdin : (name : List ℕ) (new : StdinPlace I) → is_dash name ≡ true → new ≡ stdin_after_taking stdin
+    pub kept_stdin : (name : List ℕ) (new : StdinValue I) → is_dash name ≡ true → new ≡ stdin_after_taking stdin
         → IsSoundWithStdin state first new (os ++ record { name = name; gave = None } ∷ []) fs
     kept_stdin name new is takes =
         let o : Opening = record { name = name; gave = None } in
@@ -119,13 +128,13 @@ module _ {I : Type 0} {state : I → InputState} {first stdin : StdinPlace I} {o
         })
 
 -- it was taken if `-` was opened
-pub taken_if : {I : Type 0} (state : I → InputState) (first stdin : StdinPlace I) (os fs : List Opening)
+pub taken_if : {I : Type 0} (state : I → InputState) (first stdin : StdinValue I) (os fs : List Opening)
     → IsSoundWithStdin state first stdin os fs → is_untaken stdin ≡ (times (codes "-") (names_of os) == 0)
 taken_if state first stdin os fs kept = rw (← gave-times os (codes "-")) (grind (arith, kept.place, kept.untaken))
 
 -- ---- what was opened, and what is closed
 
-module _ {I : Type 0} {state : I → InputState} {first stdin : StdinPlace I} (tells : ToldAnswers)
+module _ {I : Type 0} {state : I → InputState} {first stdin : StdinValue I} (tells : ToldAnswers)
     (log source : SourceState) (kept : IsSoundWithStdin state first stdin log.openings source.openings)
   where
     -- a name other than `-` was opened as often in the source as in both
@@ -139,19 +148,19 @@ module _ {I : Type 0} {state : I → InputState} {first stdin : StdinPlace I} (t
     -- what opening `-` gives is standard input, as it was given
     pub stdin_opened : (name : List ℕ) (given : Closable I)
         → is_dash name ≡ true → given ≡ given_input stdin → GivesUnread state stdin
-        → record (closable_state state given) { name = name; opening = times name (names_of log.openings) }
+        → record (closable_state state given) { name = name; nth = times name (names_of log.openings) }
         ≡ opened_file (answer_of_both tells) (with_stdin_state state first log source) name
     stdin_opened name given is gives fresh =
         let same : codes "-" ≡ name = same_name (codes "-") name is in
         rw (← same, ← gave-times log.openings (codes "-")) (rw gives (by _ fresh kept.place))
       where
-        empty : (place : StdinPlace I) → is_untaken place ≡ false → given_input place ≡ Closed Whole Unfinished
+        empty : (place : StdinValue I) → is_untaken place ≡ false → given_input place ≡ Closed Whole Unfinished
         empty place is = grind arith
 
-        by : (gs : List (Option (Result Reads Fault))) → GivesUnread state stdin → IsPlaceOf first stdin gs
-            → record (closable_state state (given_input stdin)) { name = codes "-"; opening = length gs } ≡ record {
+        by : (gs : List (Option (Result Reads Fault))) → GivesUnread state stdin → IsUntakenUnlessOpened first stdin gs
+            → record (closable_state state (given_input stdin)) { name = codes "-"; nth = length gs } ≡ record {
               name = codes "-";
-              opening = length gs;
+              nth = length gs;
               told = option_and_then (result_ok {E = Fault})
                   (first_or_later (option_map Ok (closable_state state (given_input first)).told)
                   (Some (Ok empty_content)) (length gs));
@@ -171,17 +180,17 @@ module _ {I : Type 0} {state : I → InputState} {first stdin : StdinPlace I} (t
     pub open_there : (file : InputState) → is_dash file.name ≡ false
         → IsOpen (answer_of_both tells) (with_stdin_state state first log source) file → IsOpen tells source file
     open_there file apart here = record {
-      opening = rw (← results-both log.openings source.openings kept.files file.name apart) here.opening;
+      is_open = rw (← results-both log.openings source.openings kept.files file.name apart) here.is_open;
       told = rw apart at here.told;
     }
 
     -- what was read of standard input fits its answer, if one is told
     pub stdin_gives : (file : InputState) → HasContent file → is_dash file.name ≡ true
         → IsOpen (answer_of_both tells) (with_stdin_state state first log source) file
-        → GivesStdin (closable_state state (given_input first)) file.opening (Some (Ok file.reads))
+        → GivesStdin (closable_state state (given_input first)) file.nth (Some (Ok file.reads))
     stdin_gives file has is here =
         let same : codes "-" ≡ file.name = same_name (codes "-") file.name is in
-        by (closable_state state (given_input first)).told file.opening (rw (← same) at here.told)
+        by (closable_state state (given_input first)).told file.nth (rw (← same) at here.told)
       where
         by : (stdin : Option Content) (k : ℕ)
             → file.told ≡ option_and_then (result_ok {E = Fault})

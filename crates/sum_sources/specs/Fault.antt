@@ -1,9 +1,9 @@
--- The faults of opening and reading: which fault an error of the system is, and its text. How an input ends.
-use Rattle.std.specs.Prelude.{ℤ, pos, List, [], ◌∷◌, Option, None, Some, map, codes, length, slice_index_or, ◌==◌, if◌then◌else◌}
-use Rattle.std.specs.{Ordering.int_eq, declared.io.ErrorKind.ErrorKind}
+-- The faults of opening and reading, and their texts.
+use Rattle.std.specs.Prelude.{ℤ, pos, List, [], ◌∷◌, map, codes, length, slice_index_or, ◌==◌, if◌then◌else◌}
 use Rattle.digest_kinds.specs.Bytes.{ByteString}
-pub use Rattle.sum_sources.specs.declared.fault.{Ending.Ending, Ending.TheVariants.Whole, Ending.TheVariants.Broken, Fault.Fault, Fault.TheVariants.NotFound, Fault.TheVariants.Denied, Fault.TheVariants.Other, Fault.TheVariants.Os}
-use Rattle.std.specs.declared.io.ErrorKind.TheVariants as kinds
+pub use Rattle.sum_sources.specs.declared.fault.{Ending.Ending, Ending.TheVariants.Whole, Ending.TheVariants.Broken}
+pub use Rattle.sum_sources.specs.declared.fault.{Fault.Fault, Fault.TheVariants.NotFound, Fault.TheVariants.Denied}
+pub use Rattle.sum_sources.specs.declared.fault.{Fault.TheVariants.Other, Fault.TheVariants.Os}
 
 -- the C library's texts of the numbers of Linux, from 0 on. A line ends with the number whose text is its first. A text
 -- is empty if there is none, and for 2, 5 and 13, which are NotFound, Other and Denied
@@ -59,22 +59,6 @@ fault_text Denied = codes "Permission denied"
 fault_text Other = codes "Input/output error"
 fault_text (Os n) = if length (reason n) == 0 then codes "Input/output error" else reason n
 
--- the fault of a number of the system: 2 is ENOENT, 13 is EACCES
-abbrev pub fault_of_number : ℤ → Fault
-fault_of_number n = if int_eq n (pos 2) then NotFound else if int_eq n (pos 13) then Denied
-    else if length (reason n) == 0 then Other else Os n
-
 -- the fault of a descriptor that isn't open, EBADF
 abbrev pub bad_descriptor : Fault
 bad_descriptor = Os (pos 9)
-
--- the fault of an error that has no number
-abbrev pub fault_of_kind : ErrorKind → Fault
-fault_of_kind kinds.NotFound = NotFound
-fault_of_kind kinds.PermissionDenied = Denied
-fault_of_kind kind = Other
-
--- the fault of an error: its number decides, or its kind if it has none
-abbrev pub fault_of_error : ErrorKind → Option ℤ → Fault
-fault_of_error kind (Some n) = fault_of_number n
-fault_of_error kind None = fault_of_kind kind

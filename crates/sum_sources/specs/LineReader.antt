@@ -1,12 +1,61 @@
--- The state of a reader of lines, and what a call changes in it.
-use Rattle.std.specs.Prelude.{ℕ, ◌≡◌, ◌+◌, ◌-◌, ◌<◌, ◌≤◌, ◌⊎◌, [], ◌∷◌, ◌++◌, length, take, drop, Bool, true, false, Option, None, Some, Result, Ok, Err}
-use Rattle.std.specs.Str.{byte}
+-- The lines of a manifest, the state of a reader of lines, and what a call changes in it.
+use Rattle.std.specs.Prelude.{ℕ, zero, suc, ◌≡◌, ◌+◌, ◌-◌, ◌<◌, false, List, [], ◌∷◌, ◌++◌, map, take, length, All}
+use Rattle.std.specs.Prelude.{slice_index_or, Result, Ok, Err, ◌≢◌, ◌≤◌, ◌⊎◌, drop, Option, None, Some}
+use Rattle.std.specs.List.{slice_split, after_first}
+use Rattle.std.specs.Char.{is_newline}
+use Rattle.std.specs.Str.Lines.{strip_carriage_return}
 use Rattle.digest_kinds.specs.Bytes.{ByteString, LIMIT}
-use Rattle.sum_sources.specs.declared.line_reader.ReaderState.{ReaderState, TheVariants.Active, TheVariants.Done, TheVariants.Stopped}
-use Rattle.sum_sources.specs.inputs.Input.{Unfinished, Ended, Past, Content, InputState, Reads, Fits, IsSameInput, clip, reads_past}
-use Rattle.sum_sources.specs.ManifestLines.{Next, Line, NoMore, LineStop, HasNoNewline, IsNextLine, lines_after}
-use Rattle.sum_sources.specs.{declared.inputs.input.TheConstants.PIECE, Fault.Fault, Fault.Whole, declared.line_reader.LineReader.TheInside.Inside}
+use Rattle.sum_sources.specs.Fault.{Ending, Whole, Broken, Fault}
+use Rattle.sum_sources.specs.inputs.Input.{Content, empty_content, Unfinished, Ended, Past, InputState, Reads, Fits}
+use Rattle.sum_sources.specs.inputs.Input.{IsSameInput, clip, reads_past}
+use Rattle.sum_sources.specs.declared.line_reader.ReaderState.{ReaderState}
+use Rattle.sum_sources.specs.declared.line_reader.ReaderState.TheVariants.{Active, Done, Stopped}
+use Rattle.sum_sources.specs.declared.inputs.input.TheConstants.{PIECE}
+use Rattle.sum_sources.specs.declared.line_reader.LineReader.TheInside.{Inside}
+pub use Rattle.sum_sources.specs.declared.line_reader.{LineStop.LineStop, Next.Next, Next.TheVariants.Line}
+pub use Rattle.sum_sources.specs.declared.line_reader.{Next.TheVariants.NoMore}
 use Rattle.sum_sources.specs.declared.line_reader.LineStop.TheVariants as stops
+
+-- the line of the last piece, which no newline ended: it is one if it isn't empty and the content ends whole
+abbrev pub last_line : Ending → ByteString → List ByteString
+last_line Whole (x ∷ xs) = (x ∷ xs) ∷ []
+last_line _ _ = []
+
+-- the lines of a content with their carriage returns: each piece that a newline ended, and the last one by its own rule
+unfoldable pub raw_lines : Content → List ByteString
+raw_lines content = let pieces = slice_split is_newline content.bytes in
+    take (length pieces - 1) pieces ++ last_line content.ending (slice_index_or pieces (length pieces - 1) [])
+
+-- the lines of a content: each without one carriage return at its end, if it has one
+abbrev pub lines_in : Content → List ByteString
+lines_in content = map strip_carriage_return (raw_lines content)
+
+-- the content past its first line
+abbrev pub past_line : Content → Content
+past_line content = record { bytes = after_first is_newline content.bytes; ending = content.ending }
+
+-- no byte is a newline
+abbrev pub HasNoNewline : ByteString → Type 0
+HasNoNewline piece = All (λ b. is_newline b ≡ false) piece
+
+-- what next_line returns, if this content remains before the call and that one after it: the first line; or, if there
+-- is none, the ending, and only it remains. Memory is refused only if a byte remains; no newline is then consumed
+abbrev pub IsNextLine : Content → Content → Result Next LineStop → ByteString → Type 0
+IsNextLine before after (Ok Line) line = (lines_in before ≡ line ∷ lines_in after) × (after ≡ past_line before)
+IsNextLine before after (Ok NoMore) line = (lines_in before ≡ []) × (before.ending ≡ Whole) × (after ≡ empty_content)
+IsNextLine before after (Err (stops.Fault fault)) line =
+    (lines_in before ≡ []) × (before.ending ≡ Broken fault) × (after ≡ record { bytes = []; ending = Broken fault })
+IsNextLine before after (Err stops.Memory) line = (0 < length before.bytes) × (past_line after ≡ past_line before)
+
+-- the number of lines after a call: one more if it returned a line
+abbrev pub lines_after : ℕ → Result Next LineStop → ℕ
+lines_after n (Ok Line) = n + 1
+lines_after n _ = n
+
+-- the content past this many lines
+abbrev pub content_past_lines : ℕ → Content → Content
+content_past_lines zero content = content
+content_past_lines (suc k) content = content_past_lines k (past_line content)
 
 -- a reader of lines
 pub record LineReaderValue (I : Type 0) : Type 0 where
@@ -61,19 +110,23 @@ abbrev pub IsFinalAnswerAfter : Result Next LineStop → Option (Result Next Lin
 IsFinalAnswerAfter (Ok Line) later = (later ≡ None) ⊎ (later ≡ Some (Ok NoMore))
 IsFinalAnswerAfter answer later = later ≡ Some answer
 
--- a call reads the next line, and reading goes on. The input hadn't ended when the reader was made
+-- a call reads on in an input that hadn't ended when the reader was made. Holds relates what remained before the call
+-- to what remains after it, for each content that the reads fit after the call
 pub record ReadsOn {I : Type 0} (state : I → InputState) (old new : LineReaderValue I)
-    (result : Result Next LineStop) (bytes : ByteString) : Type 0 where
-  -- for each content that the reads fit after the call: its next line, its ending, or that memory was refused
-  pub line : (content : Content) → Fits (reads_of state new) content
-      → IsNextLine (remaining_content old content) (remaining_content new content) result bytes
-  -- if the result is `Ok`, bytes consumed and bytes that remain add up to the same
-  pub sum : (next : Next) → result ≡ Ok next → (content : Content) → Fits (reads_of state new) content
-      → consumed_count new + length (remaining_content new content).bytes
-      ≡ consumed_count old + length (remaining_content old content).bytes
+    (Holds : Content → Content → Type 0) : Type 0 where
   pub reading : IsReading state new
   -- if the reads fit a content, those before the call fit it, too
   pub before : (content : Content) → Fits (reads_of state new) content → Fits (reads_of state old) content
+  pub holds : (content : Content) → Fits (reads_of state new) content
+      → Holds (remaining_content old content) (remaining_content new content)
+
+-- a call takes the next line of what remained, or its ending; or memory was refused
+pub record TakesNextLine {I : Type 0} (old new : LineReaderValue I) (result : Result Next LineStop)
+    (bytes : ByteString) (before after : Content) : Type 0 where
+  pub line : IsNextLine before after result bytes
+  -- unless a fault broke the input, bytes consumed and bytes that remain add up to the same
+  pub sum : ((fault : Fault) → result ≢ Err (stops.Fault fault))
+      → consumed_count new + length after.bytes ≡ consumed_count old + length before.bytes
 
 -- what a call of next_line changes in a reader
 pub record AdvancesLines {I : Type 0} (state : I → InputState) (before after : LineReaderValue I)
@@ -85,19 +138,6 @@ pub record AdvancesLines {I : Type 0} (state : I → InputState) (before after :
   -- each byte that the input gave is counted
   pub taken : after.taken + length (state before.input).reads.bytes
       ≡ before.taken + length (state after.input).reads.bytes
-
--- the bytes that a reader got are ahead, and counted; or a fault is its final answer
-abbrev pub FillsReader : {I : Type 0} → LineReaderValue I → LineReaderValue I → Result ℕ Fault → Type 0
-FillsReader before after (Ok n) = (length after.ahead ≡ n) × (after.taken ≡ before.taken + n) × (after.taken < LIMIT)
-    × (after.final_answer ≡ None)
-FillsReader before after (Err fault) = (after.ahead ≡ []) × (before.taken ≤ after.taken)
-    × (after.final_answer ≡ Some (Err (stops.Fault fault)))
-
--- a piece moves from the front of what is ahead to the line's end: up to a newline, which is dropped, or all of it
-abbrev pub TakesPiece : Bool → ByteString → ByteString → ByteString → ByteString → Type 0
-TakesPiece true before after line longer = (piece : ByteString) × HasNoNewline piece
-    × (before ≡ piece ++ (byte "\n" ∷ after)) × (longer ≡ line ++ piece)
-TakesPiece false before after line longer = HasNoNewline before × (after ≡ []) × (longer ≡ line ++ before)
 
 -- what every later call returns
 abbrev pub final_answer_in : ReaderState → Option (Result Next LineStop)

@@ -1,7 +1,6 @@
 -- Inputs, and the digest of one.
 pub mod Input
 pub mod HashInput
-pub mod FromRead
 pub mod Told
 pub mod Stdin
 pub mod InputLaws

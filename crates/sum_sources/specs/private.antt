@@ -1,1 +1,4 @@
+pub mod Fault
 pub mod SizeLimit
+pub mod Told
+pub mod LineReader

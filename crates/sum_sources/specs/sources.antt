@@ -2,9 +2,9 @@
 pub mod Source
 pub mod SourceLog
 pub mod HashFile
-pub mod StoredPair
+pub mod StoredAnswer
 pub mod ToldSource
-pub mod Place
+pub mod StdinOrFile
 pub mod Opened
 pub mod WithStdin
 pub mod WithStdinView

@@ -1,6 +1,7 @@
 //! Faults of opening and reading, and how an input ends.
 ghost use Rattle.std.specs.Prelude.{◌≡◌, map, MatchResult};
-ghost use Rattle.sum_sources.specs.Fault.{fault_text, fault_of_number, fault_of_kind, reason, reason_table};
+ghost use Rattle.sum_sources.specs.{Fault.fault_text, Fault.reason, Fault.reason_table};
+ghost use Rattle.sum_sources.specs.private.Fault.{fault_of_number, fault_of_kind};
 
 use std::io::ErrorKind;
 use std::{error, fmt};

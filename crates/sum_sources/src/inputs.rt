@@ -1,6 +1,5 @@
 //! Inputs, from which bytes are read: the trait, its implementations, and the digest of an input.
 
-mod from_read;
 pub(crate) mod hash_input;
 pub(crate) mod input;
 pub(crate) mod input_log;

@@ -1,8 +1,8 @@
 //! Where bytes come from: inputs and sources of files, in memory and real ones, the digest of an input, and the lines
-//! of a manifest. Of our crates it calls `digest_kinds`, `ghost_log` and
-//! `sum_settings`.
+//! of a manifest.
 //!
-//! Inputs and sources keep logs of what their calls gave. Only proofs see them. The code that opens a file must close
+//! What opens, reads or closes belongs here, but nothing about what a line says, and nothing that writes. Inputs and
+//! sources keep logs of what their calls gave. Only proofs see them. The code that opens a file must close
 //! it.
 //!
 //! ```rust
@@ -21,13 +21,13 @@ mod sources;
 mod system;
 
 pub use fault::{EBADF, Ending, Fault};
-pub use inputs::hash_input::{hash_input, hash_input_over};
+pub use inputs::hash_input::{hash_input, hash_input_with_buffer};
 pub use inputs::input::{Input, PIECE, Phase};
 pub use inputs::input_log::{InputCalls, InputLog, ReadNote};
 pub use inputs::stdin::{Given, Stdin};
 pub use inputs::told::Told;
 pub use line_reader::{LineReader, LineStop, Next};
-pub use sources::hash_file::{HashFault, hash_file, hash_file_over};
+pub use sources::hash_file::{HashFault, hash_file, hash_file_with_buffer};
 pub use sources::source::{OpenFault, Source};
 pub use sources::source_log::{Note, SourceCalls, SourceLog, next_file};
 pub use sources::told_source::{Answer, ToldSource};

@@ -84,8 +84,10 @@ fn drop_return<A: Allocator>(line: &mut Vec<u8, A>)
 
 impl<I: Input> LineReader<I> {
     ghost use Rattle.sum_sources.specs.LineReader.{consumed_count, IsBounded, AdvancesLines, IsReading, ReadsOn};
-    ghost use Rattle.sum_sources.specs.LineReader.{FillsReader, TakesPiece};
-    ghost use Rattle.sum_sources.specs.{ManifestLines.lines_after, inputs.Input.Unfinished};
+    ghost use Rattle.sum_sources.specs.LineReader.{TakesNextLine};
+    ghost use Rattle.sum_sources.specs.private.LineReader.{FillsReader, TakesPiece};
+    ghost use Rattle.sum_sources.specs.{inputs.Input.Unfinished};
+    ghost use Rattle.sum_sources.specs.LineReader.{lines_after};
     ghost use Rattle.sum_sources.specs.private.SizeLimit.{AddsPast, CountsBytes};
 
     /// Creates a reader of the lines of `input`. If the input has `LIMIT` bytes or more, its first `LIMIT - 1` bytes
@@ -195,14 +197,14 @@ impl<I: Input> LineReader<I> {
         }
     }
 
-    // Reads the next piece, with its carriage return, into a line that is empty.
+    // Reads the next line into a line that is empty.
     fn read_on<A: Allocator>(&mut self, line: &mut Vec<u8, A>) -> Result<Next, LineStop>
         requires empty { line.old.items ≡ [] }
         requires going { self.old.final_answer ≡ None }
 
         // The next line of what remained.
         ensures line { IsReading I.state self.old
-            → ReadsOn I.state self.old self.new result (strip_carriage_return line.new.items) }
+            → ReadsOn I.state self.old self.new (TakesNextLine self.old self.new result line.new.items) }
 
         // The line is counted later.
         ensures reader { AdvancesLines I.state self.old
@@ -212,7 +214,10 @@ impl<I: Input> LineReader<I> {
     {
         loop {
             match self.take_piece(line) {
-                Ok(true) => return Ok(Next::Line),
+                Ok(true) => {
+                    drop_return(line);
+                    return Ok(Next::Line);
+                }
                 Ok(false) => {}
                 Err(_) => {
                     self.state = ReaderState::Stopped(LineStop::Memory);
@@ -225,6 +230,7 @@ impl<I: Input> LineReader<I> {
                     if line.is_empty() {
                         return Ok(Next::NoMore);
                     }
+                    drop_return(line);
                     return Ok(Next::Line);
                 }
                 Ok(_) => {}
@@ -243,7 +249,7 @@ impl<I: Input> LineReader<I> {
     pub fn next_line<A: Allocator>(&mut self, line: &mut Vec<u8, A>) -> Result<Next, LineStop>
         // For each content that the reads since `new` fit: the next line of what remained.
         ensures line { IsReading I.state self.old
-            → ReadsOn I.state self.old self.new result line.new.items }
+            → ReadsOn I.state self.old self.new (TakesNextLine self.old self.new result line.new.items) }
 
         // A final answer is returned again, and the reader is unchanged.
         ensures repeats { IfSome self.old.final_answer (λ answer. (result ≡ answer)
@@ -262,7 +268,6 @@ impl<I: Input> LineReader<I> {
         }
         line.clear();
         let result = self.read_on(line);
-        drop_return(line);
         if let Ok(Next::Line) = result {
             self.lines += 1;
         }

@@ -1,14 +1,16 @@
 -- A source that computes its answers: each file holds the front of one text that is as long as the file's name.
-use Rattle.std.specs.{Option.option_map, Prelude.length, Prelude.take, Prelude.List, Prelude.[], Prelude.◌∷◌, Prelude.None, Prelude.Some, Prelude.Ok, Prelude.Err}
+use Rattle.std.specs.{Option.option_map, Prelude.length, Prelude.take, Prelude.List, Prelude.[], Prelude.◌∷◌}
+use Rattle.std.specs.{Prelude.None, Prelude.Some, Prelude.Ok, Prelude.Err}
 use Rattle.digest_kinds.specs.Bytes.{ByteString}
-use Rattle.sum_sources.specs.{declared.fault.Ending.TheVariants.Whole, inputs.Input.Content, sources.Source.AnswerValue, sources.Source.Pair, sources.Source.SourceState, sources.Source.ToldAnswers}
+use Rattle.sum_sources.specs.{declared.fault.Ending.TheVariants.Whole, inputs.Input.Content, sources.Source.AnswerValue}
+use Rattle.sum_sources.specs.{sources.Source.ToldAnswer, sources.Source.SourceState, sources.Source.ToldAnswers}
 
 -- a content that ends whole
 abbrev pub whole : ByteString → Content
 whole bytes = record { bytes = bytes; ending = Whole }
 
 -- what the source has in memory: its text, in one pair
-abbrev pub told_text : ByteString → List Pair
+abbrev pub told_text : ByteString → List ToldAnswer
 told_text text = record { name = []; from = 0; answer = Some (Ok (whole text)) } ∷ []
 
 -- the front of the text that is as long as the name

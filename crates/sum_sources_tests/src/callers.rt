@@ -1,18 +1,19 @@
 //! Callers of readers and of told sources that need what no program here does.
 ghost use Rattle.std.specs.{Option.option_map, Prelude.ℕ, Prelude.◌≡◌, Prelude.◌<◌};
-ghost use Rattle.std.specs.Prelude.{◌≤◌, ◌+◌, [], Some, Ok, Err, IfOk, IfSome, IsTrue, max, codes, slice_get, take};
-ghost use Rattle.digest_kinds.specs.Bytes.{LIMIT};
-ghost use Rattle.sum_sources.specs.ManifestLines.{HasNoNewline};
-ghost use Rattle.sum_sources.specs.sources.{HashFile.HashesFile, Source.first_answer, Source.names_of};
+ghost use Rattle.std.specs.Prelude.{◌≤◌, ◌+◌, ◌∷◌, List, Ok, Err, IfOk, max, slice_get};
+ghost use Rattle.digest_kinds.specs.Bytes.{ByteString, LIMIT};
+ghost use Rattle.sum_sources.specs.LineReader.{HasNoNewline, lines_in};
+ghost use Rattle.sum_sources.specs.inputs.Input.{Content, Fits, clip, empty_reads};
+ghost use Rattle.sum_sources.specs.sources.{Source.first_answer, Source.names_of};
 ghost use Rattle.sum_sources.specs.sources.{ToldSource.told_source_state, WithStdin.other_openings};
 ghost use Rattle.sum_sources.specs.sources.WithStdinView.{both_state, source_in};
 
-use digest_kinds::{Digest, Hasher, LIMIT};
+use digest_kinds::LIMIT;
 use std::alloc::Allocator;
-use std::io::Read;
+use sum_sources::laws::all_reads;
 use sum_sources::{
-    Answer, Ending, Fault, FromRead, Input, LineReader, LineStop, Next, NoRoom, PIECE, Source,
-    Told, ToldSource, WithStdin, hash_file,
+    Answer, Ending, Fault, Input, LineReader, LineStop, Next, NoRoom, PIECE, Told, ToldSource,
+    WithStdin,
 };
 
 /// Returns how many more bytes an input may give before it is too long.
@@ -27,18 +28,6 @@ pub fn bytes_beyond_lines<I: Input>(reader: &LineReader<I>) -> u64
     ensures { result + reader.now.lines ≡ reader.now.taken }
 {
     reader.taken() - reader.lines()
-}
-
-/// Asks for a line twice, and returns the second answer. A final answer is returned both times.
-pub fn ask_twice<I: Input, A: Allocator>(
-    reader: &mut LineReader<I>,
-    line: &mut Vec<u8, A>,
-) -> Result<Next, LineStop>
-    ensures { IfSome reader.old.final_answer (λ answer.
-        (result ≡ answer) × (reader.new ≡ reader.old)) }
-{
-    let _ = reader.next_line(line);
-    reader.next_line(line)
 }
 
 /// Asks for a line of which all was read ahead. So nothing is read of the input.
@@ -64,6 +53,21 @@ pub fn ask<I: Input, A: Allocator>(
     (next, reader.taken() - reader.lines())
 }
 
+/// Reads the first line of an unread input, and gives the input back: its own reads show which line that is.
+pub fn first_line<I: Input, A: Allocator>(
+    input: I,
+    line: &mut Vec<u8, A>,
+) -> (Result<Next, LineStop>, I)
+    requires { (I.state input).reads ≡ empty_reads }
+    ensures { result.0 ≡ Ok Next.Line → (content : Content) → Fits (I.state result.1).reads content
+        → (later : List ByteString) × (lines_in (clip content) ≡ line.new.items ∷ later) }
+{
+    all_reads::<I>();
+    let mut reader = LineReader::new(input);
+    let next = reader.next_line(line);
+    (next, reader.into_inner())
+}
+
 /// Reads twice from bytes in memory, of which each read gives at most `piece`; 0 counts as 1.
 pub fn read_piece(content: &[u8], piece: usize, buf: &mut [u8]) -> Result<usize, Fault>
     ensures { IfOk result (λ n. n ≤ max piece 1) }
@@ -71,31 +75,6 @@ pub fn read_piece(content: &[u8], piece: usize, buf: &mut [u8]) -> Result<usize,
     let mut input = Told::new(content, Ending::Whole, piece);
     input.read(buf)?;
     input.read(buf)
-}
-
-/// Reads from a reader that is known to have some bytes left: these come first.
-pub fn read_known<R: Read>(input: &mut FromRead<R>, buf: &mut [u8]) -> Result<usize, Fault>
-    requires { R.remaining input.old.reader ≡ Some (codes "known") }
-    ensures { IfOk result (λ n. take n buf.new ≡ take n (codes "known")) }
-{
-    input.read(buf)
-}
-
-/// Returns whether the file of this name has this digest, which it has only if it was read to its end.
-pub fn has_digest<S: Source, H: Hasher + Drop>(
-    source: &mut S,
-    name: &[u8],
-    hasher: H,
-    digest: &Digest,
-) -> bool
-    requires { H.holds hasher [] }
-    ensures { IsTrue result → HashesFile (H.kind_of hasher) name.now (S.state source.old)
-        (S.state source.new) (Ok digest.now) }
-{
-    match hash_file(source, name, hasher) {
-        Ok(found) => found.same(digest),
-        Err(_) => false,
-    }
 }
 
 /// Creates a source of one file, and offers another answer to its name, which never counts.

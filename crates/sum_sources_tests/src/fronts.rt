@@ -22,12 +22,12 @@ impl<'a> Input for Front<'a> {
 
     ghost state = { λ s. record (told_state (told_view s.told)) {
       name = s.log.name;
-      opening = s.log.opening;
+      nth = s.log.nth;
     } };
 
     fn read(&mut self, buf: &mut [u8]) -> Result<usize, Fault> {
         let result = self.told.read(buf);
-        self.log = self.log.and(&ReadNote(buf, &result));
+        self.log = self.log.with_note(&ReadNote(buf, &result));
         result
     }
 
@@ -61,14 +61,14 @@ impl<'a> Source for Fronts<'a> {
 
     fn open_file(&mut self, name: &[u8]) -> Result<Front<'a>, OpenFault> {
         let log = next_file(&self.log, name);
-        self.log = self.log.and(&Note::Opened(name));
+        self.log = self.log.with_note(&Note::Opened(name));
         let front = &self.text[..name.len().min(self.text.len())];
         let told = Told::new(front, Ending::Whole, PIECE);
         Ok(Front { told, log })
     }
 
     fn close_file(&mut self, file: Front<'a>) {
-        self.log = self.log.and(&Note::Closed(&file.log));
+        self.log = self.log.with_note(&Note::Closed(&file.log));
     }
 
     ghost gives_told = { λ s. s.gives };

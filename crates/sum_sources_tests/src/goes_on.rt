@@ -60,7 +60,7 @@ impl<'a> Input for TwoParts<'a> {
 
     fn read(&mut self, buf: &mut [u8]) -> Result<usize, Fault> {
         let result = self.told.read(buf);
-        self.log = self.log.and(&ReadNote(buf, &result));
+        self.log = self.log.with_note(&ReadNote(buf, &result));
         self.phase = self.phase.after(buf.len(), &result);
         let goes_on = match result {
             Ok(n) => n == 0 && !buf.is_empty(),
@@ -126,17 +126,17 @@ impl<'a, A: Allocator> Source for InTurn<'a, A> {
 
     fn open_file(&mut self, name: &[u8]) -> Result<TwoParts<'a>, OpenFault> {
         let Some((content, place, ending)) = self.files.pop_front() else {
-            self.log = self.log.and(&Note::Failed(name, Fault::NotFound));
+            self.log = self.log.with_note(&Note::Failed(name, Fault::NotFound));
             return Err(OpenFault::Fault(Fault::NotFound));
         };
         let log = next_file(&self.log, name);
-        self.log = self.log.and(&Note::Opened(name));
+        self.log = self.log.with_note(&Note::Opened(name));
         self.opened = self.opened.saturating_add(1);
         Ok(TwoParts::opened(content, place, ending, self.piece, log))
     }
 
     fn close_file(&mut self, file: TwoParts<'a>) {
-        self.log = self.log.and(&Note::Closed(&file.log));
+        self.log = self.log.with_note(&Note::Closed(&file.log));
         match file.phase {
             Phase::Ended(Ending::Whole) => self.ended = self.ended.saturating_add(1),
             Phase::Ended(Ending::Broken(_)) => self.failed = self.failed.saturating_add(1),

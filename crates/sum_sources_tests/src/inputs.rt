@@ -11,7 +11,7 @@ use std::process::Abort;
 use std::test::Fail;
 use sum_sources::{
     EBADF, Ending, Fault, FromRead, Input, LineStop, NoRoom, OpenFault, PIECE, Phase, Stdin, Told,
-    hash_input, hash_input_over,
+    hash_input, hash_input_with_buffer,
 };
 
 // A reader of an input. It fails with the error this often first, and then at each fault of the input.
@@ -175,7 +175,7 @@ fn hashed(
     buffer: &mut [u8; PIECE],
 ) -> Result<Digest, Fault> {
     let mut input = Told::new(content, ending, piece);
-    let over = hash_input_over(&mut input, Sha256Hasher::new(), buffer);
+    let over = hash_input_with_buffer(&mut input, Sha256Hasher::new(), buffer);
     let result = hash_input(&mut Told::new(content, ending, piece), Sha256Hasher::new());
     assert!(rt; over == result, "{} in pieces of {piece}", content.len());
     result

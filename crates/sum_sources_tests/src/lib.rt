@@ -6,7 +6,6 @@ pub mod fronts;
 pub mod goes_on;
 #[cfg(test)]
 mod inputs;
-pub mod laws;
 #[cfg(test)]
 mod lines;
 pub mod rest;

@@ -1,7 +1,8 @@
 //! Callers that read the header of an input themselves, and hand on the rest of it.
 ghost use Rattle.std.specs.Prelude.{◌≡◌, ◌∷◌, [], drop, take, IfOk, IfSome};
-ghost use Rattle.digest_kinds.specs.Kind.{digest};
-ghost use Rattle.sum_sources.specs.{LineReader.content_past, LineReader.remaining_content, ManifestLines.lines};
+ghost use Rattle.digest_kinds.specs.Kind.{message_digest};
+ghost use Rattle.sum_sources.specs.{LineReader.content_past, LineReader.remaining_content};
+ghost use Rattle.sum_sources.specs.LineReader.{lines_in};
 ghost use Rattle.sum_sources.specs.inputs.Input.{Content, Fits, clip, empty_reads};
 
 use digest_kinds::{Digest, Hasher};
@@ -20,7 +21,7 @@ pub fn hash_past_header<I: Input, H: Hasher + Drop>(
     // For each content that all reads of the input fit, the header's included.
     ensures { (c : Content) → Fits (I.state input.new).reads c
         → IfOk result (λ d. (take 3 c.bytes ≡ header.new)
-        × (d ≡ digest (H.kind_of hasher) (drop 3 c.bytes))) }
+        × (d ≡ message_digest (H.kind_of hasher) (drop 3 c.bytes))) }
 {
     if input.read(header)? < 3 {
         return Err(Fault::Other);
@@ -37,8 +38,8 @@ pub fn line_past_header<I: Input + Drop, A: Allocator>(
     requires { (I.state input).reads ≡ empty_reads }
     // For each content that all reads of the input fit, the header's included.
     ensures { IfSome result (λ r. (c : Content) → Fits (I.state r.input).reads c
-        → lines (clip (content_past 3 c))
-        ≡ line.new.items ∷ lines (remaining_content r (content_past 3 c))) }
+        → lines_in (clip (content_past 3 c))
+        ≡ line.new.items ∷ lines_in (remaining_content r (content_past 3 c))) }
 {
     let mut header = [0; 3];
     let Ok(3) = input.read(&mut header) else {

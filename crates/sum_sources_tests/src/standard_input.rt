@@ -1,12 +1,10 @@
 //! Callers of standard input beside a source of files.
-ghost use Rattle.std.specs.Prelude.{◌≡◌, ◌++◌, ◌∷◌, [], false, IsTrue, MatchBool, OnOk};
+ghost use Rattle.std.specs.Prelude.{◌≡◌, ◌++◌, ◌∷◌, [], IsTrue, MatchBool, OnOk};
 ghost use Rattle.sum_sources.specs.inputs.Stdin.{given_input, is_untaken, stdin_after_put_back, stdin_after_taking};
 ghost use Rattle.sum_sources.specs.sources.{Source.names_of, WithStdin.is_dash};
 ghost use Rattle.sum_sources.specs.sources.WithStdinView.{source_in, stdin_in};
 
-use digest_kinds::{Digest, Hasher};
-use sum_sources::laws::stdin_is_taken;
-use sum_sources::{HashFault, Input, OpenFault, Source, Stdin, WithStdin, hash_file};
+use sum_sources::{Input, OpenFault, Source, Stdin, WithStdin};
 
 /// Opens the file of a name, and closes it unread. If the name is `-`, the source of files is unchanged; otherwise
 /// standard input is.
@@ -36,20 +34,4 @@ pub fn visit_stdin<I: Input + Drop, S: Source>(stdin: Stdin<I>, source: S) -> Wi
     let mut inputs = WithStdin::new(stdin, source);
     let _ = visit(&mut inputs, b"-");
     inputs
-}
-
-/// Hashes the file of a name. Only the name `-` takes standard input.
-pub fn hash_name<I: Input + Drop, S: Source, H: Hasher + Drop>(
-    inputs: &mut WithStdin<I, S>,
-    name: &[u8],
-    hasher: H,
-) -> Result<Digest, HashFault>
-    requires { H.holds hasher [] }
-    ensures { is_dash name.now ≡ false
-        → is_untaken (stdin_in inputs.new) ≡ is_untaken (stdin_in inputs.old) }
-{
-    stdin_is_taken(inputs);
-    let result = hash_file(inputs, name, hasher);
-    stdin_is_taken(inputs);
-    result
 }

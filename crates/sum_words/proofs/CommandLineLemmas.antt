@@ -1,11 +1,16 @@
 -- The reading of the arguments, one after another, gives the command line.
-use Rattle.std.proofs.Common.{ℕ, ◌≡◌, ◌+◌, ◌-◌, ◌<◌, ◌≤◌, not, ◌==◌, List, [], ◌∷◌, ◌++◌, length, take, drop, Option, Some, None, Result, Ok, Err, OnErr, Any, IsSomeAnd, slice_get, sym, arith, append-nil, append_assoc, ◌∙◌, refl}
-use Rattle.std.proofs.lemmas.{Bool.not_from_false, Bool.not_from_true, Bool.false_from_ne_true, Grind.common_steps, List.Sums.suffix_len_is}
-use Rattle.std.specs.{List.after_last, declared.env.FillError.FillError, declared.env.FillError.TheVariants.NotPresent, declared.env.FillError.TheVariants.TooLong}
+use Rattle.std.proofs.Common.{ℕ, ◌≡◌, ◌+◌, ◌-◌, ◌<◌, ◌≤◌, not, ◌==◌, List, [], ◌∷◌, ◌++◌, length, take, drop, Option}
+use Rattle.std.proofs.Common.{Some, None, Result, Ok, Err, OnErr, Any, IsSomeAnd, slice_get, sym, arith, append-nil}
+use Rattle.std.proofs.Common.{append_assoc, ◌∙◌, refl}
+use Rattle.std.proofs.lemmas.{Bool.not_from_false, Bool.not_from_true, Bool.false_from_ne_true, Grind.common_steps}
+use Rattle.std.proofs.lemmas.{List.Sums.suffix_len_is}
+use Rattle.std.specs.{List.after_last, declared.env.FillError.FillError, declared.env.FillError.TheVariants.NotPresent}
+use Rattle.std.specs.{declared.env.FillError.TheVariants.TooLong}
 use Rattle.memchr.specs.Find.{Passes, Nowhere, is_byte}
 use Rattle.digest_kinds.specs.Bytes.{ByteString}
 use Rattle.sum_words.specs.Arguments.{ArgumentsState, Explains, FitsArguments, state_after_fill, FitsArguments-append}
-use Rattle.sum_words.{proofs.WordBytesLemmas.drop_at_none, proofs.WordBytesLemmas.drop_at_some, specs.private.CommandLine.Fails, specs.private.CommandLine.Fills}
+use Rattle.sum_words.{proofs.WordBytesLemmas.drop_at_none, proofs.WordBytesLemmas.drop_at_some}
+use Rattle.sum_words.{specs.private.CommandLine.Fails, specs.private.CommandLine.Fills}
 
 -- the part after a slash that no other follows, or all of a path without one
 pub last_part-from : (path : List ℕ) (n : ℕ) → n ≤ length path → Nowhere (Passes (is_byte 47) path) n (length path)
@@ -48,7 +53,8 @@ follows given size all (word ∷ more) are explains = (word, more, are, explains
 
 -- if an argument was longer than its buffer, each list that agrees has one that is, after those that were given
 pub next_longer : {least : ℕ} {a b : ArgumentsState} (all : List ByteString) → Fails TooLong least a b
-    → FitsArguments b all → (word : ByteString) × (more : List ByteString) × (all ≡ a.given ++ word ∷ more) × (least < length word)
+    → FitsArguments b all → (word : ByteString) × (more : List ByteString) × (all ≡ a.given ++ word ∷ more)
+    × (least < length word)
 next_longer {least} {a} all fails agrees =
     let here : FitsArguments (record a { fault = Some (TooLong, fails.size) }) all = rw fails.state at agrees in
     let (word, more, are, longer) = follows a.given fails.size all _ here.given here.fault in

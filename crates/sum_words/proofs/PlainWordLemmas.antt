@@ -1,7 +1,8 @@
 -- Plain words are operands.
 use Rattle.std.proofs.Common.{rules, ◌≡◌, true, false, Bool, not, List, [], ◌∷◌, ◌++◌, map, codes, refl, ap, bytes_eq}
 use Rattle.std.{proofs.lemmas.List.Elements.All-head, proofs.lemmas.List.Elements.All-tail, specs.List.AllPass}
-use Rattle.sum_words.specs.{declared.tool.Tool.Tool, parsing.Items.operand, parsing.Items.a_word, parsing.Items.is_option_word, parsing.Items.items_from}
+use Rattle.sum_words.specs.{declared.tool.Tool.Tool, parsing.Items.operand, parsing.Items.a_word}
+use Rattle.sum_words.specs.{parsing.Items.is_option_word, parsing.Items.items_from}
 use Rattle.digest_kinds.specs.Bytes.{ByteString}
 
 -- a word that doesn't begin with a dash, or is a dash alone

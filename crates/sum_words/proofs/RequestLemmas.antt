@@ -1,8 +1,11 @@
 -- The options read so far, and the number of a length value.
 use Rattle.std.proofs.Common.{rules, ◌≡◌, ◌≢◌, ℕ, true, List, ◌∷◌, Result, arith, IsUtf8}
-use Rattle.std.proofs.lemmas.{Fmt.IsAscii-from_digits, Grind.common_steps, Str.IsUtf8-from_ascii, Str.Parse.IsNumeralModel, Str.Parse.numerals_by_value, Str.Parse.parse_digits}
-use Rattle.std.specs.{Char.is_ascii_digit, List.list_all, Result.result_ok, Str.Parse.ParsesUnsigned, Str.Parse.digits_value}
-use Rattle.sum_words.specs.{declared.parsing.options.Flag.Flag, parsing.Items.ItemValue, parsing.Items.option, parsing.Request.early_request, private.Request.IsNumberOf}
+use Rattle.std.proofs.lemmas.{Fmt.IsAscii-from_digits, Grind.common_steps, Str.IsUtf8-from_ascii}
+use Rattle.std.proofs.lemmas.{Str.Parse.IsNumeralModel, Str.Parse.numerals_by_value, Str.Parse.parse_digits}
+use Rattle.std.specs.{Char.is_ascii_digit, List.list_all, Result.result_ok, Str.Parse.ParsesUnsigned}
+use Rattle.std.specs.{Str.Parse.digits_value}
+use Rattle.sum_words.specs.{declared.parsing.options.Flag.Flag, parsing.Items.ItemValue, parsing.Items.option}
+use Rattle.sum_words.specs.{parsing.Request.early_request, private.Request.IsNumberOf}
 use Rattle.digest_kinds.specs.Bytes.{ByteString}
 use Rattle.sum_words.specs.declared.parsing.options.Flag.TheVariants as flags
 

@@ -1,7 +1,9 @@
 -- The help is written in parts.
-use Rattle.std.proofs.Common.{rules, arith, ℕ, ◌≡◌, ◌+◌, ◌<◌, ◌++◌, List, [], ◌∷◌, drop, filter, flat_map, get_or, length}
+use Rattle.std.proofs.Common.{rules, arith, ℕ, ◌≡◌, ◌+◌, ◌<◌, ◌++◌, List, [], ◌∷◌, drop, filter, flat_map, get_or}
+use Rattle.std.proofs.Common.{length}
 use Rattle.std.proofs.lemmas.{Grind.common_steps, List.drop_more}
-use Rattle.sum_words.specs.{declared.parsing.options.Flag.Flag, declared.tool.Tool.Tool, messages.Help.help_line, parsing.Options.has_option}
+use Rattle.sum_words.specs.{declared.parsing.options.Flag.Flag, declared.tool.Tool.Tool, messages.Help.help_line}
+use Rattle.sum_words.specs.{parsing.Options.has_option}
 use Rattle.digest_kinds.specs.Bytes.{ByteString}
 
 -- the first two lines of help, of which three parts say what the tool is for

@@ -1,6 +1,8 @@
 -- Words at their places, and bytes cut into pieces: one more piece, and the piece at a place.
-use Rattle.std.proofs.Common.{◌≡◌, ℕ, zero, suc, ◌-◌, ◌≤◌, List, [], ◌∷◌, ◌++◌, length, take, drop, get_or, Option, None, Some, refl, ap, arith, length-append, slice_get, ◌+◌, ◌<◌}
-use Rattle.std.proofs.lemmas.{Grind.common_steps, List.drop_all, List.drop_more, Option.slice_get_within, Option.slice_get_past, Option.slice_get_cases, Option.get_or_from_slice_get}
+use Rattle.std.proofs.Common.{◌≡◌, ℕ, zero, suc, ◌-◌, ◌≤◌, List, [], ◌∷◌, ◌++◌, length, take, drop, get_or, Option}
+use Rattle.std.proofs.Common.{None, Some, refl, ap, arith, length-append, slice_get, ◌+◌, ◌<◌}
+use Rattle.std.proofs.lemmas.{Grind.common_steps, List.drop_all, List.drop_more, Option.slice_get_within}
+use Rattle.std.proofs.lemmas.{Option.slice_get_past, Option.slice_get_cases, Option.get_or_from_slice_get}
 use Rattle.digest_kinds.specs.Bytes.{ByteString}
 use Rattle.sum_words.specs.Words.{pieces_cut, CutsAt}
 

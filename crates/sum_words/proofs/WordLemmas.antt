@@ -1,9 +1,14 @@
 -- One word: its prefixes, its characters, and what is left of it for a value.
-use Rattle.std.proofs.Common.{rules, arith, ◌≡◌, ◌==◌, ◌≢◌, ℕ, ◌+◌, true, false, List, [], ◌∷◌, codes, length, drop, Option, None, Some, MatchOption, refl, sym, bytes_eq, IsUtf8, Bor}
-use Rattle.std.proofs.lemmas.{Bool.false_from_ne_true, List.nil_from_length, Slice.Eq.bytes_eq-Decides, Str.chars-nil, Str.encodes-chars, Str.IsUtf8-from_is_utf8, Str.is_utf8-from_IsUtf8, Str.Pattern.starts_text}
+use Rattle.std.proofs.Common.{rules, arith, ◌≡◌, ◌==◌, ◌≢◌, ℕ, ◌+◌, true, false, List, [], ◌∷◌, codes, length, drop}
+use Rattle.std.proofs.Common.{Option, None, Some, MatchOption, refl, sym, bytes_eq, IsUtf8, Bor}
+use Rattle.std.proofs.lemmas.{Bool.false_from_ne_true, List.nil_from_length, Slice.Eq.bytes_eq-Decides, Str.chars-nil}
+use Rattle.std.proofs.lemmas.{Str.encodes-chars, Str.IsUtf8-from_is_utf8, Str.is_utf8-from_IsUtf8}
+use Rattle.std.proofs.lemmas.{Str.Pattern.starts_text}
 use Rattle.std.specs.{List.starts_with, Str.chars, Str.is_utf8, Str.Pattern.FindsTextPrefix}
 use lib.Utf8.{encode}
-use Rattle.sum_words.specs.{declared.tool.Tool.Tool, parsing.Items.a_word, parsing.Items.length_value, parsing.Items.fault, parsing.Items.is_option_word, parsing.Items.items_from, parsing.WordFault.not_text, private.Items.attached_value}
+use Rattle.sum_words.specs.{declared.tool.Tool.Tool, parsing.Items.a_word, parsing.Items.length_value}
+use Rattle.sum_words.specs.{parsing.Items.fault, parsing.Items.is_option_word, parsing.Items.items_from}
+use Rattle.sum_words.specs.{parsing.WordFault.not_text, private.Items.attached_value}
 
 -- the rest of a text after a prefix, as `strip_prefix` returns it
 pub prefix_stripped : (prefix text : List ℕ) (r : Option (Bor (List ℕ)))

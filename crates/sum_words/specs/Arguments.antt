@@ -1,7 +1,9 @@
--- What the calls for arguments gave, and which lists of arguments agree with that; then the law that some list does.
+-- What the calls for arguments gave, and which lists of arguments agree with that.
 use Rattle.std.proofs.Common.{ℕ, ◌≡◌, ◌<◌, ◌+◌, List, [], ◌∷◌, ◌++◌, Option, None, Some, Result, Ok, Err, refl, arith}
 use Rattle.std.specs.Prelude.{length, take, drop, replicate, slice_get, IfSome, IsSomeAnd}
-use Rattle.std.{specs.declared.env.FillError.TheVariants.NotPresent, specs.declared.env.FillError.TheVariants.TooLong, proofs.Math.Seq.drop-append_seam, proofs.Props.props, proofs.lemmas.List.length-replicate, specs.declared.env.FillError.FillError}
+use Rattle.std.{specs.declared.env.FillError.TheVariants.NotPresent, specs.declared.env.FillError.TheVariants.TooLong}
+use Rattle.std.{proofs.Math.Seq.drop-append_seam, proofs.Props.props, proofs.lemmas.List.length-replicate}
+use Rattle.std.{specs.declared.env.FillError.FillError}
 use Rattle.digest_kinds.specs.Bytes.{ByteString}
 
 -- the state of a list of arguments

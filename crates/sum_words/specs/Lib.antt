@@ -1,6 +1,6 @@
 pub mod Arguments
 pub mod CommandLine
-pub mod SystemArguments
+pub mod System
 pub mod ToldArguments
 pub mod Tool
 pub mod Words

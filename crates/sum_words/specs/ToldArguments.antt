@@ -1,6 +1,7 @@
 -- The state of a list of arguments in memory.
 use Rattle.std.specs.Prelude.{Some, map}
-use Rattle.sum_words.specs.{Arguments.ArgumentsState, declared.arguments.ToldArguments.ToldArguments}
+use Rattle.sum_words.specs.{Arguments.ArgumentsState}
+use Rattle.sum_words.specs.declared.told_arguments.ToldArguments.{ToldArguments}
 
 -- the arguments in memory, and what the calls for them gave
 abbrev pub told_arguments_state : ToldArguments → ArgumentsState

@@ -1,7 +1,8 @@
 -- The tools: the name and the algorithms of each.
 use Rattle.std.specs.Prelude.{[], ◌∷◌, Option, codes, find, bytes_eq}
 use Rattle.digest_kinds.specs.declared.algo.Algo.TheVariants.{Md5, Sha1, Sha224, Sha256, Sha384, Sha512, Blake2b}
-use Rattle.digest_kinds.specs.{declared.algo.Algos.TheVariants.One, declared.algo.Algos.TheVariants.Any, Bytes.ByteString, declared.algo.Algos.Algos}
+use Rattle.digest_kinds.specs.{declared.algo.Algos.TheVariants.One, declared.algo.Algos.TheVariants.Any}
+use Rattle.digest_kinds.specs.{Bytes.ByteString, declared.algo.Algos.Algos}
 use Rattle.sum_words.specs.declared.tool.Tool.{Tool}
 use Rattle.sum_words.specs.declared.tool.Tool.TheVariants as tools
 

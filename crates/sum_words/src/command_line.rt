@@ -37,7 +37,7 @@ pub fn read_command_line<A: Allocator + Copy, G: Arguments>(
     alloc: A,
     arguments: &mut G,
 ) -> Result<CommandLine<A>, NoRoom>
-    requires { (G.state arguments.old).given ≡ [] }
+    requires given { (G.state arguments.old).given ≡ [] }
     // Of every list of arguments that agrees with what the calls gave: what it asks for, or that it needs memory.
     ensures line { (all : List ByteString) → FitsArguments (G.state arguments.new) all
         → MatchResult result (λ line. command_line all ≡ command_line_value line)
@@ -151,13 +151,13 @@ fn find_tool<A: Allocator, G: Arguments>(
     let Some(path) = room.argument(arguments, 0)? else {
         return Ok(None);
     };
-    if let Some(tool) = Tool::from_name(last_part(path)) {
+    if let Some(tool) = Tool::from_bytes(last_part(path)) {
         return Ok(Some((tool, 1)));
     }
     let Some(word) = room.argument(arguments, 1)? else {
         return Ok(None);
     };
-    match Tool::from_name(word) {
+    match Tool::from_bytes(word) {
         Some(tool) => Ok(Some((tool, 2))),
         None => Ok(None),
     }

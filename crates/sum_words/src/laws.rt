@@ -9,7 +9,7 @@ use crate::arguments::Arguments;
 
 /// Some list of arguments agrees with what the calls for them gave. If they are in memory, only that list does.
 pub fn some_list_agrees<G: Arguments>(arguments: &G)
-    ensures { (all : List ByteString) × FitsArguments (G.state arguments.now) all }
+    ensures list { (all : List ByteString) × FitsArguments (G.state arguments.now) all }
 {}
 
 /// A word is plain if it is `-` or doesn't begin with a dash. The plain words at the front are operands, in order,

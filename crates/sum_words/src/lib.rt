@@ -1,7 +1,7 @@
 //! What a command line asks for: the tool, its settings and its operands.
 //!
 //! What the arguments alone decide belongs here, and the texts that need no file, such as help and faults of words. The
-//! crate may call those below it, and opens no file.
+//! crate opens no file.
 //!
 //! ```rust
 //! let mut words = Words::new(alloc);
@@ -26,10 +26,11 @@ pub mod laws;
 mod messages;
 mod parsing;
 mod system;
+mod told_arguments;
 mod tool;
 mod words;
 
-pub use arguments::{Arguments, ToldArguments};
+pub use arguments::Arguments;
 pub use command_line::{CommandLine, read_command_line};
 pub use messages::fault_lines::put_fault;
 pub use messages::help::{put_help, put_version};
@@ -39,5 +40,6 @@ pub use parsing::request::{Request, read_words};
 pub use parsing::word_fault::WordFault;
 pub use sum_settings::NoRoom;
 pub use system::SystemArguments;
+pub use told_arguments::ToldArguments;
 pub use tool::{Tool, UnknownTool};
 pub use words::{Words, WordsIter};

@@ -15,11 +15,11 @@ pub struct SystemArguments<R> {
 }
 
 impl<R: Env> SystemArguments<R> {
-    ghost use Rattle.sum_words.specs.SystemArguments.{system_arguments_state};
+    ghost use Rattle.sum_words.specs.System.{system_arguments_state};
 
     /// Creates the list of this runtime's arguments.
     pub fn new(rt: R) -> Self
-        ensures { (system_arguments_state result).given ≡ [] }
+        ensures given { (system_arguments_state result).given ≡ [] }
     {
         SystemArguments {
             rt,
@@ -29,13 +29,13 @@ impl<R: Env> SystemArguments<R> {
 }
 
 impl<R: Env> Arguments for SystemArguments<R> {
-    ghost use Rattle.sum_words.specs.SystemArguments.{system_arguments_state};
+    ghost use Rattle.sum_words.specs.System.{system_arguments_state};
 
     ghost state = { system_arguments_state };
 
     fn fill(&mut self, place: usize, buffer: &mut [u8]) -> Result<usize, FillError> {
         let filled = self.rt.arg(place, buffer);
-        self.log = self.log.and(&Filled(buffer, &filled));
+        self.log = self.log.with_note(&Filled(buffer, &filled));
         filled
     }
 

@@ -36,14 +36,14 @@ impl Tool {
     /// Returns the tool of this name, if there is one.
     #[tactic(auto, unfolding(crate::specs::Tool::tool_called))]
     pub fn from_word(word: &str) -> Option<Tool>
-        ensures { (tool : Tool) → (result ≡ Some tool) ↔ (name_of tool ≡ word.now) }
+        ensures tool { (tool : Tool) → (result ≡ Some tool) ↔ (name_of tool ≡ word.now) }
     {
-        Tool::from_name(word.as_bytes())
+        Tool::from_bytes(word.as_bytes())
     }
 
     /// Returns the tool whose name these bytes are, if there is one.
     #[tactic(auto, unfolding(crate::specs::Tool::tool_called))]
-    pub fn from_name(name: &[u8]) -> Option<Tool>
+    pub fn from_bytes(name: &[u8]) -> Option<Tool>
         ensures tool { result ≡ tool_called name.now }
         // So the tool's name is this one.
         ensures name { IfSome result (λ tool. name_of tool ≡ name.now) }
@@ -73,14 +73,14 @@ impl Tool {
 
     /// Returns the tool's name, as it is typed and as it begins each of its messages.
     pub fn name(self) -> &'static str
-        ensures { result.now ≡ name_of self }
+        ensures name { result.now ≡ name_of self }
     {
         self.row().0
     }
 
     /// Returns the algorithms of the tool's digests: all for `anysum`, one for each other tool.
     pub fn algos(self) -> Algos
-        ensures { result ≡ algos_of self }
+        ensures algos { result ≡ algos_of self }
     {
         self.row().1
     }

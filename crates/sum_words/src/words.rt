@@ -32,7 +32,7 @@ impl<A: Allocator> Model for Words<A> {
 impl<A: Allocator + Copy> Words<A> {
     /// Creates an empty list.
     pub fn new(alloc: A) -> Self
-        ensures { result ≡ [] }
+        ensures words { result ≡ [] }
     {
         Words {
             bytes: Vec::new(alloc),
@@ -68,21 +68,21 @@ impl<A: Allocator> Words<A> {
     /// Returns how many words the list has.
     #[tactic(auto, using(crate::proofs::WordBytesLemmas::pieces))]
     pub fn len(&self) -> usize
-        ensures { result ≡ length self.now }
+        ensures value { result ≡ length self.now }
     {
         self.ends.len()
     }
 
     /// Returns whether the list is empty.
     pub fn is_empty(&self) -> bool
-        ensures { IsTrue result ↔ (self.now ≡ []) }
+        ensures value { IsTrue result ↔ (self.now ≡ []) }
     {
         self.len() == 0
     }
 
     /// Returns an iterator over the words.
     pub fn iter(&self) -> WordsIter<'_>
-        ensures { result ≡ self.now }
+        ensures words { result ≡ self.now }
     {
         WordsIter {
             bytes: self.bytes.as_slice(),
@@ -93,7 +93,7 @@ impl<A: Allocator> Words<A> {
 
     /// Returns the word at this place, counted from 0, or `None` past the last.
     pub fn get(&self, i: usize) -> Option<&[u8]>
-        ensures { option_copied result ≡ slice_get self.now i }
+        ensures word { option_copied result ≡ slice_get self.now i }
     {
         piece_at(self.bytes.as_slice(), self.ends.as_slice(), i)
     }

@@ -1,16 +1,24 @@
 -- Worked examples: what the definitions say of some command lines, computed.
-use Rattle.std.proofs.Common.{rules, ◌≡◌, ◌==◌, ◌≤◌, List, ℕ, [], ◌∷◌, None, Some, Result, Ok, Err, refl, codes, true, false, length}
+use Rattle.std.proofs.Common.{rules, ◌≡◌, ◌==◌, ◌≤◌, List, ℕ, [], ◌∷◌, None, Some, Result, Ok, Err, refl, codes, true}
+use Rattle.std.proofs.Common.{false, length}
 use Rattle.std.specs.{List.slice_split, Prelude.⊤, Str.byte, Str.chars, Str.is_utf8}
 use Prim.Native.String.{String}
 use lib.Utf8.{encode}
 use Rattle.digest_kinds.specs.Bytes.{ByteString}
-use Rattle.digest_kinds.specs.declared.algo.{Algo.Algo, Algo.TheVariants.Md5, Algo.TheVariants.Sha256, Algo.TheVariants.Blake2b, Algos.TheVariants.One, Algos.TheVariants.Any}
+use Rattle.digest_kinds.specs.declared.algo.{Algo.Algo, Algo.TheVariants.Md5, Algo.TheVariants.Sha256}
+use Rattle.digest_kinds.specs.declared.algo.{Algo.TheVariants.Blake2b, Algos.TheVariants.One, Algos.TheVariants.Any}
 use Rattle.sum_settings.specs.declared.style.Mode.{Mode}
-use Rattle.sum_words.specs.{CommandLine.command_line, CommandLine.NeedsMemory, Tool.tool_called, declared.parsing.options.Spelling.TheVariants.Long, declared.parsing.options.Spelling.TheVariants.Short, declared.parsing.request.Request.Request}
+use Rattle.sum_words.specs.{CommandLine.command_line, CommandLine.NeedsMemory, Tool.tool_called}
+use Rattle.sum_words.specs.{declared.parsing.options.Spelling.TheVariants.Long}
+use Rattle.sum_words.specs.{declared.parsing.options.Spelling.TheVariants.Short}
+use Rattle.sum_words.specs.{declared.parsing.request.Request.Request}
 use Rattle.sum_words.specs.declared.parsing.request.Request.TheVariants.{Generate, Check, Help, Version}
 use Rattle.sum_words.specs.declared.tool.Tool.TheVariants.{Md5sum, Sha256sum, B2sum, Anysum}
-use Rattle.sum_words.specs.parsing.{Options.name_or_fault, Options.option_of_letter, Request.request, WordFault.WordFaultValue, WordFault.unknown_long}
-use Rattle.sum_words.specs.parsing.WordFault.{ambiguous_long, value_not_allowed, value_missing, unknown_short, length_invalid, length_not_bytes, tag_with_text, zero_with_check, tag_with_check, mode_with_check, without_check, check_needed, not_text}
+use Rattle.sum_words.specs.parsing.{Options.name_or_fault, Options.option_of_letter, Request.request}
+use Rattle.sum_words.specs.parsing.{WordFault.WordFaultValue, WordFault.unknown_long}
+use Rattle.sum_words.specs.parsing.WordFault.{ambiguous_long, value_not_allowed, value_missing, unknown_short}
+use Rattle.sum_words.specs.parsing.WordFault.{length_invalid, length_not_bytes, tag_with_text, zero_with_check}
+use Rattle.sum_words.specs.parsing.WordFault.{tag_with_check, mode_with_check, without_check, check_needed, not_text}
 use Rattle.sum_settings.specs.declared.style.Mode.TheVariants as modes
 use Rattle.sum_settings.specs.declared.settings.Report.TheVariants as reports
 use Rattle.sum_words.specs.declared.parsing.options.Flag.TheVariants as flags

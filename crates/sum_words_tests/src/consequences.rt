@@ -1,21 +1,10 @@
 //! What the contracts of words and of tools give a caller.
 ghost use Rattle.std.specs.Option.{option_copied};
-ghost use Rattle.std.specs.Prelude.{◌≡◌, ◌≢◌, ◌⊎◌, ◌↔◌, ◌-◌, ◌∷◌, ◌++◌, [], IsTrue, Ok, OnOk, OnErr, codes, length};
+ghost use Rattle.std.specs.Prelude.{◌≡◌, ◌≢◌, ◌↔◌, ◌-◌, [], IsTrue, Ok, length};
 ghost use Rattle.std.specs.Prelude.{slice_get};
 
 use std::alloc::Allocator;
-use sum_words::{NoRoom, Tool, UnknownTool, Words};
-
-/// Adds `--` and a name, which is then an operand, whatever it is. If memory is refused, the words are as before, but
-/// for a `--` that may follow them.
-pub fn add_name<A: Allocator>(words: &mut Words<A>, name: &[u8]) -> Result<(), NoRoom>
-    ensures ok { OnOk result (words.new ≡ words.old ++ codes "--" ∷ name.now ∷ []) }
-    ensures err { OnErr result ((words.new ≡ words.old)
-        ⊎ (words.new ≡ words.old ++ codes "--" ∷ [])) }
-{
-    words.add("--")?;
-    words.add_bytes(name)
-}
+use sum_words::{Tool, UnknownTool, Words};
 
 /// Returns the last word, if there is one.
 pub fn last_word<A: Allocator>(words: &Words<A>) -> Option<&[u8]>

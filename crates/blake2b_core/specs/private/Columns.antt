@@ -1,5 +1,6 @@
 -- How the code mixes: four columns at once. Its working vector is four rows of four words.
-use Rattle.std.specs.{List.range_with_len, Prelude.ℕ, Prelude.◌+◌, Prelude.◌/◌, Prelude.◌%◌, Prelude.List, Prelude.[], Prelude.map, Prelude.fold, Prelude.slice_index_or, Simd.first_chunks}
+use Rattle.std.specs.{List.range_with_len, Prelude.ℕ, Prelude.◌+◌, Prelude.◌/◌, Prelude.◌%◌, Prelude.List, Prelude.[]}
+use Rattle.std.specs.{Prelude.map, Prelude.fold, Prelude.slice_index_or, Simd.first_chunks}
 use Rattle.byteorder.specs.Endian.{little_number}
 use Rattle.blake2b_core.specs.{Bytes.ByteString, Compression.◌!◌, Compression.◌⊻◌, Compression.sigma, Compression.mix}
 

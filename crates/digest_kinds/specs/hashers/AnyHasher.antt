@@ -2,7 +2,9 @@
 use Rattle.std.specs.Prelude.{◌≡◌, ℕ, length}
 use Rattle.sha2.specs.Hashers.{Holds224, Holds256, Holds384, Holds512}
 use Rattle.blake2b_core.specs.{Blake2b.HasTaken, Blake2b.digest_len, Blake2b.taken_count, Bytes.ByteString}
-use Rattle.digest_kinds.specs.{Algo.Algo, Algo.Md5, Algo.Sha1, Algo.Sha224, Algo.Sha256, Algo.Sha384, Algo.Sha512, Kind.KindValue, Kind.blake2b_kind, Kind.full_kind, declared.hashers.any_hasher.AnyHasher.AnyHasher}
+use Rattle.digest_kinds.specs.{Algo.Algo, Algo.Md5, Algo.Sha1, Algo.Sha224, Algo.Sha256, Algo.Sha384, Algo.Sha512}
+use Rattle.digest_kinds.specs.{Kind.KindValue, Kind.blake2b_kind, Kind.full_kind}
+use Rattle.digest_kinds.specs.{declared.hashers.any_hasher.AnyHasher.AnyHasher}
 use Rattle.md5.specs.Md5.{Holds as HoldsMd5}
 use Rattle.sha1.specs.Sha1.{Holds as HoldsSha1}
 use Rattle.digest_kinds.specs.declared.hashers.any_hasher.AnyHasher.TheVariants as hashers

@@ -1,6 +1,6 @@
 //! Hashers for MD5, SHA-1 and SHA-2, which count the bytes of the message beside the state of the digest.
 
-ghost use Rattle.digest_kinds.specs.{Algo.full_len, Bytes.ByteString, Kind.digest, Kind.full_kind};
+ghost use Rattle.digest_kinds.specs.{Algo.full_len_of, Bytes.ByteString, Kind.message_digest, Kind.full_kind};
 ghost use Rattle.digest_kinds.specs.declared.algo.Algo.{Algo};
 ghost use Rattle.md5.specs.Md5.{Holds as HoldsMd5};
 ghost use Rattle.sha1.specs.Sha1.{Holds as HoldsSha1};
@@ -33,8 +33,8 @@ pub trait DigestState: Drop {
 
     /// Returns the digest of the message that was taken.
     fn finish(self) -> Digest
-        ensures value { (m : ByteString) → holds self m → result ≡ digest (full_kind ALGO) m }
-        ensures len { length result ≡ full_len ALGO };
+        ensures value { (m : ByteString) → holds self m → result ≡ message_digest (full_kind ALGO) m }
+        ensures len { length result ≡ full_len_of ALGO };
 }
 
 /// A hasher that counts the bytes which the state of its digest takes.
@@ -146,8 +146,8 @@ pub trait Sha2Digest: sha2::Digest {
 
     /// Returns the digest of the message that was taken.
     fn finish_sha2(self) -> Digest
-        ensures value { (m : ByteString) → Self.holds self m → result ≡ digest (full_kind SHA2) m }
-        ensures len { length result ≡ full_len SHA2 };
+        ensures value { (m : ByteString) → Self.holds self m → result ≡ message_digest (full_kind SHA2) m }
+        ensures len { length result ≡ full_len_of SHA2 };
 }
 
 impl<D: Sha2Digest> DigestState for D {

@@ -1,6 +1,6 @@
 //! The trait of a hasher.
 
-ghost use Rattle.digest_kinds.specs.{Bytes.ByteString, Bytes.LIMIT, Kind.KindValue, Kind.digest};
+ghost use Rattle.digest_kinds.specs.{Bytes.ByteString, Bytes.LIMIT, Kind.KindValue, Kind.message_digest};
 ghost use Rattle.std.specs.Prelude.{◌≡◌, ◌↔◌, ℕ, ◌+◌, ◌<◌, ◌++◌, length, IsOk, OnOk, OnErr};
 
 use crate::digest::Digest;
@@ -53,7 +53,7 @@ pub trait Hasher {
 
     /// Returns the digest of the message that was taken, of the kind's length.
     fn finish(self) -> Digest
-        ensures value { (m : ByteString) → holds self m → result ≡ digest (kind_of self) m }
+        ensures value { (m : ByteString) → holds self m → result ≡ message_digest (kind_of self) m }
         ensures len { length result ≡ (kind_of self).len };
 
     // The number of bytes that it has taken is the length of its message.

@@ -1,8 +1,10 @@
 -- Relates the messages of the program to their texts.
 use Rattle.std.specs.Prelude.{Some}
 use Rattle.digest_kinds.specs.Bytes.{ByteString}
-use Rattle.sum_words.specs.{messages.FaultLines.fault_lines, messages.Help.help, messages.Help.version, parsing.WordFault.word_fault_value}
-use Rattle.digests.specs.{Program.stop_line, Program.unknown_tool_line, Program.not_read_line, declared.messages.Message.Message}
+use Rattle.sum_words.specs.{messages.FaultLines.fault_lines, messages.Help.help, messages.Help.version}
+use Rattle.sum_words.specs.{parsing.WordFault.word_fault_value}
+use Rattle.digests.specs.{Program.stop_line, Program.unknown_tool_line, Program.not_read_line}
+use Rattle.digests.specs.{declared.messages.Message.Message}
 use Rattle.digests.specs.declared.messages.Message.TheVariants as texts
 
 -- the text of a message

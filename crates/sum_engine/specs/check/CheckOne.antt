@@ -1,26 +1,37 @@
--- The behavior of checking one manifest, and how far the manifest was read if its check stopped.
+-- The behavior of checking one manifest.
 use Rattle.std.specs.Prelude.{ℕ, ◌≡◌, ◌+◌, ◌≤◌, true, false, List, [], ◌∷◌, ◌++◌, length, Some, Ok, Err, ⊤}
 use Rattle.sum_settings.specs.declared.{settings.CheckSettings.CheckSettings, stop.Stop.Stop}
 use Rattle.digest_kinds.specs.Bytes.{ByteString}
 use Rattle.sum_sources.specs.sources.Source.{AnswerValue, result_at, times}
-use Rattle.sum_sources.specs.{declared.inputs.input.TheConstants.PIECE, ManifestLines.past_line, inputs.Input.Content, inputs.Input.Reads, inputs.Input.clip, sources.WithStdin.is_dash}
+use Rattle.sum_sources.specs.{declared.inputs.input.TheConstants.PIECE, inputs.Input.Content, inputs.Input.Reads}
+use Rattle.sum_sources.specs.{inputs.Input.clip, sources.WithStdin.is_dash}
+use Rattle.sum_sources.specs.LineReader.{past_line}
 use Rattle.sum_engine.specs.Behavior.{World, answer_to, world_after, Step, Behavior, behavior_then, single_step, trace}
-use Rattle.sum_engine.specs.{Execution.Agrees, Execution.world_at, Execution.opened_names, Execution.Happened, Execution.PerformsSteps, Streams.StreamsState, ToolLines.name_fault_line}
-use Rattle.sum_engine.specs.check.{Counts.counts_of, Counts.good, Judge.LineVerdictValue, Judge.asks_of, Judge.all_verdicts, Report.out_of, Report.err_of, Rules.LabelsValue, Rules.rules_of, Rules.labels_of, Rules.CheckRules, Summary.end_text}
+use Rattle.sum_engine.specs.{Execution.Agrees, Execution.world_at, Execution.opened_names, Execution.Happened}
+use Rattle.sum_engine.specs.{Execution.PerformsSteps, Streams.StreamsState, ToolLines.name_fault_line}
+use Rattle.sum_engine.specs.check.{Counts.counts_of, Counts.is_manifest_good, Judge.LineVerdictValue}
+use Rattle.sum_engine.specs.check.{Judge.names_in_line, Judge.all_verdicts, Report.out_of, Report.err_of}
+use Rattle.sum_engine.specs.check.{Rules.LabelsValue, Rules.rules_of, Rules.labels_of, Rules.CheckRules}
+use Rattle.sum_engine.specs.check.{Summary.end_text}
 
 -- the steps of a content: one for each line, by these verdicts, and one for the end, which has this text
 abbrev pub line_steps : CheckRules → LabelsValue → ByteString → Content → List LineVerdictValue → List Step
 line_steps rules labels end content [] =
-    record { names = []; err = end; out = []; remaining = length content.bytes } ∷ []
+    record { names = []; err = end; out = []; manifest_left = length content.bytes } ∷ []
 line_steps rules labels end content (x ∷ xs) =
-    record { names = asks_of x; err = err_of rules labels x; out = out_of labels x; remaining = length content.bytes }
+    record {
+      names = names_in_line x;
+      err = err_of rules labels x;
+      out = out_of labels x;
+      manifest_left = length content.bytes;
+    }
     ∷ line_steps rules labels end (past_line content) xs
 
 -- the behavior of a manifest that was opened, whose lines have these verdicts
 abbrev pub content_behavior : CheckRules → LabelsValue → Content → List LineVerdictValue → Behavior
 content_behavior rules labels content verdicts = let counts = counts_of verdicts in record {
   steps = line_steps rules labels (end_text rules labels content.ending counts) content verdicts;
-  good = good rules content.ending counts;
+  good = is_manifest_good rules content.ending counts;
 }
 
 -- the behavior of the manifest of this name, opened with this answer, in the world after that opening
@@ -40,7 +51,7 @@ check_behavior settings tool world name = check_behavior_by (rules_of settings (
 -- how many bytes of a manifest remain before these steps
 abbrev pub remaining_before : List Step → ℕ
 remaining_before [] = 0
-remaining_before (next ∷ later) = next.remaining
+remaining_before (next ∷ later) = next.manifest_left
 
 -- the steps before the next one happened, and that one stopped. Of the manifest of this content n bytes were read, at
 -- most `PIECE` of them past the next one's line

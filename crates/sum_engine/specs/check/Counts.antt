@@ -1,7 +1,8 @@
 -- How many lines of a manifest have each verdict, and whether a manifest is good.
 use Rattle.std.specs.Prelude.{ℕ, ◌+◌, ◌==◌, ◌&&◌, ◌||◌, Bool, false, not, List, [], ◌∷◌}
 use Rattle.sum_sources.specs.declared.fault.Ending.{Ending, TheVariants.Whole, TheVariants.Broken}
-use Rattle.sum_engine.specs.check.{Judge.Verdict, Judge.Ignored, Judge.Bad, Judge.Right, Judge.Wrong, Judge.Missing, Judge.Unread, Judge.LineVerdictValue, Rules.CheckRules}
+use Rattle.sum_engine.specs.check.{Judge.Verdict, Judge.Ignored, Judge.Bad, Judge.Right, Judge.Wrong, Judge.Missing}
+use Rattle.sum_engine.specs.check.{Judge.Unread, Judge.LineVerdictValue, Rules.CheckRules}
 pub use Rattle.sum_engine.specs.declared.check.counts.Counts.{Counts}
 
 -- the counts and one more line, which has this verdict
@@ -29,15 +30,15 @@ counts_then first second = record {
 }
 
 -- the number of lines that are entries
-abbrev pub entries : Counts → ℕ
-entries counts = counts.right + counts.wrong + counts.missing + counts.unread
+abbrev pub entry_count : Counts → ℕ
+entry_count counts = counts.right + counts.wrong + counts.missing + counts.unread
 
 -- the number of lines that are not ignored
 abbrev pub total : Counts → ℕ
-total counts = entries counts + counts.bad
+total counts = entry_count counts + counts.bad
 
 -- whether a manifest is good: it was read whole, a line is Right, none is Wrong or Unread and, if strict, none is Bad
-abbrev pub good : CheckRules → Ending → Counts → Bool
-good rules Whole counts = not (counts.right == 0) && (counts.wrong == 0) && (counts.unread == 0)
+abbrev pub is_manifest_good : CheckRules → Ending → Counts → Bool
+is_manifest_good rules Whole counts = not (counts.right == 0) && (counts.wrong == 0) && (counts.unread == 0)
     && (not rules.strict || (counts.bad == 0))
-good rules (Broken fault) counts = false
+is_manifest_good rules (Broken fault) counts = false

@@ -1,9 +1,14 @@
 -- The verdict of a line, and those of a manifest's lines.
-use Rattle.std.specs.Prelude.{ℕ, ◌+◌, ◌≤◌, ◌&&◌, Bool, true, false, List, [], ◌∷◌, length, Result, Ok, Err, if◌then◌else◌, bytes_eq, slice_range, map}
+use Rattle.std.specs.Prelude.{ℕ, ◌+◌, ◌≤◌, ◌&&◌, Bool, true, false, List, [], ◌∷◌, length, Result, Ok, Err}
+use Rattle.std.specs.Prelude.{if◌then◌else◌, bytes_eq, slice_range, map}
 use Rattle.digest_kinds.specs.{Bytes.ByteString, declared.algo.Algos.Algos}
-use Rattle.sum_lines.specs.grammar.{Entries.EntryValue, Form.form, ParsedLines.ParsedLine, ParsedLines.ignored, ParsedLines.bad, ParsedLines.entry, ParsedLines.parse_line}
-use Rattle.sum_sources.specs.{ManifestLines.lines, declared.fault.Fault.Fault, declared.fault.Fault.TheVariants.NotFound, inputs.Input.Content, sources.Source.AnswerValue, sources.WithStdin.is_dash}
-use Rattle.sum_engine.specs.{Behavior.World, Behavior.answer_to, Behavior.world_after, Behavior.digest_or_fault, check.Rules.CheckRules}
+use Rattle.sum_lines.specs.grammar.{Entries.EntryValue, Form.form_of, ParsedLines.ParsedLine, ParsedLines.ignored}
+use Rattle.sum_lines.specs.grammar.{ParsedLines.bad, ParsedLines.entry, ParsedLines.parse_line}
+use Rattle.sum_sources.specs.{declared.fault.Fault.Fault, declared.fault.Fault.TheVariants.NotFound}
+use Rattle.sum_sources.specs.{inputs.Input.Content, sources.Source.AnswerValue, sources.WithStdin.is_dash}
+use Rattle.sum_sources.specs.LineReader.{lines_in}
+use Rattle.sum_engine.specs.{Behavior.World, Behavior.answer_to, Behavior.world_after, Behavior.digest_or_fault}
+use Rattle.sum_engine.specs.{check.Rules.CheckRules}
 pub use Rattle.sum_engine.specs.declared.check.judge.{LineVerdict.LineVerdict, Verdict.Verdict}
 pub use Rattle.sum_engine.specs.declared.check.judge.Verdict.TheVariants.{Ignored, Bad, Right, Wrong, Missing, Unread}
 
@@ -59,19 +64,24 @@ asks_by Bad name = []
 asks_by verdict name = name ∷ []
 
 -- the names that a line's verdict opens
-abbrev pub asks_of : LineVerdictValue → List ByteString
-asks_of found = asks_by found.verdict found.name
+abbrev pub names_in_line : LineVerdictValue → List ByteString
+names_in_line found = asks_by found.verdict found.name
+
+-- the names that the first of these verdicts opens, if there is one
+abbrev pub first_names : List LineVerdictValue → List ByteString
+first_names [] = []
+first_names (first ∷ later) = names_in_line first
 
 -- the verdicts of the lines after line n, which say this. Each finds the world that the earlier ones leave
-abbrev pub verdicts : CheckRules → World → ℕ → List ParsedLine → List LineVerdictValue
-verdicts rules world n [] = []
-verdicts rules world n (x ∷ xs) = let first = line_verdict rules world (n + 1) x in
-    first ∷ verdicts rules (world_after world (asks_of first)) (n + 1) xs
+abbrev pub verdicts_of : CheckRules → World → ℕ → List ParsedLine → List LineVerdictValue
+verdicts_of rules world n [] = []
+verdicts_of rules world n (x ∷ xs) = let first = line_verdict rules world (n + 1) x in
+    first ∷ verdicts_of rules (world_after world (names_in_line first)) (n + 1) xs
 
 -- what the lines of a content say, in a list of the form of them all
 abbrev pub parsed_content : Algos → Content → List ParsedLine
-parsed_content algos content = map (parse_line algos (form algos (lines content))) (lines content)
+parsed_content algos content = map (parse_line algos (form_of algos (lines_in content))) (lines_in content)
 
 -- the verdicts of a whole manifest
 abbrev pub all_verdicts : CheckRules → World → Content → List LineVerdictValue
-all_verdicts rules world content = verdicts rules world 0 (parsed_content rules.algo content)
+all_verdicts rules world content = verdicts_of rules world 0 (parsed_content rules.algo content)

@@ -1,13 +1,16 @@
 -- What checking writes about a line.
 use Rattle.std.specs.{List.concat, Prelude.ℕ, Prelude.[], Prelude.◌∷◌, Prelude.decimal, Prelude.codes}
-use Rattle.digest_kinds.specs.{Algo.tag, Bytes.ByteString, declared.algo.Algos.Algos, declared.algo.Algos.TheVariants.One, declared.algo.Algos.TheVariants.Any}
-use Rattle.sum_lines.specs.{Escape.escape, Escape.escape_differs, grammar.Shapes.mark}
+use Rattle.digest_kinds.specs.{Algo.tag_of, Bytes.ByteString, declared.algo.Algos.Algos}
+use Rattle.digest_kinds.specs.{declared.algo.Algos.TheVariants.One, declared.algo.Algos.TheVariants.Any}
+use Rattle.sum_lines.specs.{Escape.escape, Escape.escape_differs, grammar.Shapes.backslash_if}
 use Rattle.sum_settings.specs.declared.settings.Report.{Report, TheVariants.Quiet, TheVariants.Warn, TheVariants.Status}
-use Rattle.sum_engine.specs.{ToolLines.name_fault_line, check.Judge.Verdict, check.Judge.Bad, check.Judge.Right, check.Judge.Wrong, check.Judge.Unread, check.Judge.LineVerdictValue, check.Rules.LabelsValue, check.Rules.CheckRules}
+use Rattle.sum_engine.specs.{ToolLines.name_fault_line, check.Judge.Verdict, check.Judge.Bad, check.Judge.Right}
+use Rattle.sum_engine.specs.{check.Judge.Wrong, check.Judge.Unread, check.Judge.LineVerdictValue}
+use Rattle.sum_engine.specs.{check.Rules.LabelsValue, check.Rules.CheckRules}
 
 -- NAME: TEXT, after a backslash if the name's escape differs from it
 abbrev pub name_line : ByteString → ByteString → ByteString
-name_line name text = concat (mark (escape_differs name) ∷ escape name ∷ codes ": " ∷ text ∷ codes "\n" ∷ [])
+name_line name text = concat (backslash_if (escape_differs name) ∷ escape name ∷ codes ": " ∷ text ∷ codes "\n" ∷ [])
 
 -- the report of a verdict on this name on standard output
 abbrev pub out_by : Report → Verdict → ByteString → ByteString
@@ -24,7 +27,7 @@ out_of labels found = out_by labels.report found.verdict found.name
 
 -- the word for the tag in a report
 abbrev pub tag_word : Algos → ByteString
-tag_word (One algo) = tag algo
+tag_word (One algo) = tag_of algo
 tag_word Any = codes "tagged"
 
 -- TOOL: MANIFEST: N: improperly formatted TAG checksum line

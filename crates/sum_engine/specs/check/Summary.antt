@@ -1,9 +1,11 @@
 -- What checking writes at the end of a manifest.
-use Rattle.std.specs.{List.concat, Prelude.ℕ, Prelude.◌==◌, Prelude.◌&&◌, Prelude.[], Prelude.◌∷◌, Prelude.◌++◌, Prelude.decimal, Prelude.codes, Prelude.if◌then◌else◌}
+use Rattle.std.specs.{List.concat, Prelude.ℕ, Prelude.◌==◌, Prelude.◌&&◌, Prelude.[], Prelude.◌∷◌, Prelude.◌++◌}
+use Rattle.std.specs.{Prelude.decimal, Prelude.codes, Prelude.if◌then◌else◌}
 use Rattle.sum_settings.specs.declared.settings.Report.{Report, TheVariants.Status}
 use Rattle.digest_kinds.specs.Bytes.{ByteString}
 use Rattle.sum_sources.specs.declared.fault.Ending.{Ending, TheVariants.Whole, TheVariants.Broken}
-use Rattle.sum_engine.specs.{ToolLines.tool_line, ToolLines.name_fault_line, check.Counts.Counts, check.Counts.entries, check.Rules.LabelsValue, check.Rules.CheckRules}
+use Rattle.sum_engine.specs.{ToolLines.tool_line, ToolLines.name_fault_line, check.Counts.Counts}
+use Rattle.sum_engine.specs.{check.Counts.entry_count, check.Rules.LabelsValue, check.Rules.CheckRules}
 
 -- TOOL: WARNING: N TEXT, unless the count is 0
 abbrev pub warning : ByteString → ℕ → ByteString → ByteString → ByteString
@@ -30,7 +32,7 @@ text_unless_status report text = text
 
 -- the end of a manifest on standard error: its summary, or the line of the fault that broke it
 abbrev pub end_text : CheckRules → LabelsValue → Ending → Counts → ByteString
-end_text rules labels Whole counts = if entries counts == 0
+end_text rules labels Whole counts = if entry_count counts == 0
     then tool_line labels.tool labels.manifest (codes "no properly formatted checksum lines found")
     else text_unless_status labels.report (warnings rules labels counts)
 end_text rules labels (Broken fault) counts = name_fault_line labels.tool labels.manifest fault

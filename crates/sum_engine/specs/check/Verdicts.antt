@@ -1,13 +1,25 @@
 -- The verdicts of a manifest, one call after another; no text is written.
-use Rattle.std.specs.Prelude.{ℕ, ◌≡◌, ◌+◌, ◌≤◌, ◌<◌, ◌⊎◌, Bool, true, false, List, [], ◌∷◌, length, ⊤, Option, None, Some, IfSome, Result, Ok, Err, map}
+use Rattle.std.specs.Prelude.{ℕ, ◌≡◌, ◌≢◌, ◌+◌, ◌≤◌, ◌<◌, ◌⊎◌, Bool, true, false, List, [], ◌∷◌, length, ⊤, Option}
+use Rattle.std.specs.Prelude.{None, Some, IfSome, Result, Ok, Err, map}
 use Rattle.digest_kinds.specs.Bytes.{ByteString}
-use Rattle.sum_lines.specs.{declared.reading.read_line.Form.Form, declared.reading.read_line.Form.TheVariants.Undecided, grammar.Form.form, grammar.Form.form_then, grammar.Form.line_form, grammar.ParsedLines.parse_line}
-use Rattle.sum_sources.specs.{LineReader.AdvancesLines, LineReader.IsBounded, LineReader.IsReading, LineReader.consumed_count, LineReader.reads_of, LineReader.remaining_content, ManifestLines.past_line, ManifestLines.lines}
-use Rattle.sum_sources.specs.declared.{fault.Ending.Ending, fault.Ending.TheVariants.Whole, fault.Ending.TheVariants.Broken, inputs.input.Phase.TheVariants.Unfinished, inputs.input.TheConstants.PIECE}
-use Rattle.sum_sources.specs.declared.line_reader.{LineReader.LineReader, LineStop.LineStop, LineStop.TheVariants.Fault, LineStop.TheVariants.Memory, Next.Next, Next.TheVariants.NoMore}
-use Rattle.sum_sources.specs.{inputs.Input.Content, inputs.Input.Fits, inputs.Input.InputState, sources.Source.SourceState}
-use Rattle.sum_engine.specs.{Behavior.World, Execution.Agrees, Execution.world_at, Execution.ReadsToEndIf, Execution.AsksNames, Execution.RefusesMemory}
-use Rattle.sum_engine.specs.check.{Counts.Counts, Counts.counts_of, Counts.counts_and_line, Judge.LineVerdict, Judge.LineVerdictValue, Judge.line_verdict_value, Judge.is_unread, Judge.asks_of, Judge.line_verdict, Judge.verdicts, Rules.CheckRules}
+use Rattle.sum_lines.specs.{declared.reading.read_line.Form.Form, declared.reading.read_line.Form.TheVariants.Undecided}
+use Rattle.sum_lines.specs.{grammar.Form.form_of, grammar.Form.form_then, grammar.Form.line_form}
+use Rattle.sum_lines.specs.{grammar.ParsedLines.parse_line}
+use Rattle.sum_sources.specs.{LineReader.AdvancesLines, LineReader.IsBounded, LineReader.IsReading, LineReader.ReadsOn}
+use Rattle.sum_sources.specs.{LineReader.consumed_count}
+use Rattle.sum_sources.specs.LineReader.{past_line, lines_in}
+use Rattle.sum_sources.specs.declared.{fault.Ending.Ending, fault.Ending.TheVariants.Whole}
+use Rattle.sum_sources.specs.declared.{fault.Ending.TheVariants.Broken, inputs.input.Phase.TheVariants.Unfinished}
+use Rattle.sum_sources.specs.declared.{inputs.input.TheConstants.PIECE}
+use Rattle.sum_sources.specs.declared.line_reader.{LineReader.LineReader, LineStop.LineStop, LineStop.TheVariants.Fault}
+use Rattle.sum_sources.specs.declared.line_reader.{LineStop.TheVariants.Memory, Next.Next, Next.TheVariants.Line}
+use Rattle.sum_sources.specs.declared.line_reader.{Next.TheVariants.NoMore}
+use Rattle.sum_sources.specs.{inputs.Input.Content, inputs.Input.InputState, sources.Source.SourceState}
+use Rattle.sum_engine.specs.{Behavior.World, Execution.Agrees, Execution.world_at, Execution.ReadsToEndIf}
+use Rattle.sum_engine.specs.{Execution.OpensNames, Execution.RefusesMemory}
+use Rattle.sum_engine.specs.check.{Counts.Counts, Counts.counts_of, Counts.counts_and_line, Rules.CheckRules}
+use Rattle.sum_engine.specs.check.Judge.{LineVerdict, LineVerdictValue, line_verdict_value, is_unread, names_in_line}
+use Rattle.sum_engine.specs.check.Judge.{first_names, line_verdict, verdicts_of}
 
 -- the verdicts of a manifest
 pub record VerdictsValue (I : Type 0) : Type 0 where
@@ -68,14 +80,14 @@ next_judged rules state line = line_verdict rules state.world (state.number + 1)
 
 -- the verdicts of the lines that remain
 abbrev pub remaining_verdicts : CheckRules → CheckState → List LineVerdictValue
-remaining_verdicts rules state = let all = lines state.remaining in
-    let form_of_all = form_then state.form (form rules.algo all) in
-    verdicts rules state.world state.number (map (parse_line rules.algo form_of_all) all)
+remaining_verdicts rules state = let all = lines_in state.remaining in
+    let form_of_all = form_then state.form (form_of rules.algo all) in
+    verdicts_of rules state.world state.number (map (parse_line rules.algo form_of_all) all)
 
 -- one line was handled, after which the vector for lines holds these bytes
 pub record HandlesLine (rules : CheckRules) (before after : CheckState) (vector : ByteString) : Type 0 where
   pub line : ByteString
-  pub lines : lines before.remaining ≡ line ∷ lines after.remaining
+  pub lines : lines_in before.remaining ≡ line ∷ lines_in after.remaining
   pub remaining : after.remaining ≡ past_line before.remaining
   pub consumed : after.consumed + length after.remaining.bytes ≡ before.consumed + length before.remaining.bytes
   pub taken : after.taken ≤ after.consumed + PIECE
@@ -93,14 +105,9 @@ ReadsOneLine before after =
 -- each world that agrees with all reads. The premise: the manifest hadn't ended when its reader was made
 pub record HoldsInEachCheck {I : Type 0} (state_of : I → InputState) (old new : VerdictsValue I)
     (old_source new_source : SourceState) (Holds : CheckState → CheckState → Type 0) : Type 0 where
-  pub reading : IsReading state_of old.reader → IsReading state_of new.reader
-  -- a content that fits the reads after the call also fits those before it
-  pub before : IsReading state_of old.reader → (content : Content) → Fits (reads_of state_of new.reader) content
-      → Fits (reads_of state_of old.reader) content
-  pub holds : IsReading state_of old.reader → (content : Content) → Fits (reads_of state_of new.reader) content
-      → (world : World) → Agrees world new_source
-      → Holds (state_at old (remaining_content old.reader content) (world_at world old_source))
-      (state_at new (remaining_content new.reader content) (world_at world new_source))
+  pub reads : IsReading state_of old.reader
+      → ReadsOn state_of old.reader new.reader (λ before after. (world : World) → Agrees world new_source
+      → Holds (state_at old before (world_at world old_source)) (state_at new after (world_at world new_source)))
 
 -- ---- what a call returns
 
@@ -115,14 +122,16 @@ pub record HasNoVerdictLeft (rules : CheckRules) (last : Ending) (before after :
   pub counts : after.counts ≡ before.counts
   pub remaining : after.remaining ≡ record { bytes = []; ending = last }
 
--- the call found the first verdict of those that remained, or that none remained, as its result says
-abbrev pub IsNextVerdict : CheckRules → ByteString → CheckState → CheckState → VerdictResult → Type 0
-IsNextVerdict rules vector before after (Ok (Some found)) =
+-- the call found the first verdict of those that remained, or that none remained, as its result says. If memory ran out
+-- since the source was refused it, the first verdict opens a name
+abbrev pub IsNextVerdict : CheckRules → ByteString → Type 0 → CheckState → CheckState → VerdictResult → Type 0
+IsNextVerdict rules vector Refused before after (Ok (Some found)) =
     (remaining_verdicts rules before ≡ line_verdict_value vector found ∷ remaining_verdicts rules after)
     × HandlesLine rules before after vector
-IsNextVerdict rules vector before after (Ok None) = HasNoVerdictLeft rules Whole before after
-IsNextVerdict rules vector before after (Err (Fault fault)) = HasNoVerdictLeft rules (Broken fault) before after
-IsNextVerdict rules vector before after (Err Memory) = (0 < length before.remaining.bytes) × ReadsOneLine before after
+IsNextVerdict rules vector Refused before after (Ok None) = HasNoVerdictLeft rules Whole before after
+IsNextVerdict rules vector Refused before after (Err (Fault fault)) = HasNoVerdictLeft rules (Broken fault) before after
+IsNextVerdict rules vector Refused before after (Err Memory) = (0 < length before.remaining.bytes)
+    × ReadsOneLine before after × (Refused → first_names (remaining_verdicts rules before) ≢ [])
 
 -- ---- the outcome
 
@@ -158,21 +167,29 @@ IsNotUnread result = ⊤
 
 -- a call for the next verdict opens the name that the verdict is about, if it is about one. If memory ran out, the
 -- source was refused memory; or bytes were read ahead, and nothing was opened
-abbrev pub AsksFor : ByteString → ByteString → SourceState → SourceState → VerdictResult → Type 0
-AsksFor vector ahead before after (Ok (Some found)) = AsksNames before after (asks_of (line_verdict_value vector found))
-AsksFor vector ahead before after (Err Memory) = RefusesMemory before after ⊎ ((after ≡ before) × (0 < length ahead))
-AsksFor vector ahead before after result = AsksNames before after []
+abbrev pub OpensFor : ByteString → ByteString → SourceState → SourceState → VerdictResult → Type 0
+OpensFor vector ahead before after (Ok (Some found)) = OpensNames before after
+    (names_in_line (line_verdict_value vector found))
+OpensFor vector ahead before after (Err Memory) = RefusesMemory before after ⊎ ((after ≡ before) × (0 < length ahead))
+OpensFor vector ahead before after result = OpensNames before after []
+
+-- what its reader returned if a call for the next verdict returns this: a line, also if memory was refused to open the
+-- file that it names; or that no line is left, or the same stop
+abbrev pub IsReadFor : VerdictResult → Result Next LineStop → Type 0
+IsReadFor (Ok (Some found)) read = read ≡ Ok Line
+IsReadFor (Ok None) read = read ≡ Ok NoMore
+IsReadFor (Err Memory) read = (read ≡ Err Memory) ⊎ (read ≡ Ok Line)
+IsReadFor (Err stop) read = read ≡ Err stop
 
 -- what a call for the next verdict does, whatever the manifest's content and the world are
 pub record AdvancesVerdicts {I : Type 0} (state_of : I → InputState) (vector : ByteString) (old new : VerdictsValue I)
     (before after : SourceState) (result : VerdictResult) : Type 0 where
   pub rules : new.rules ≡ old.rules
   pub counts : new.counts ≡ counts_after old.counts result
-  pub number : (found : LineVerdict) → result ≡ Ok (Some found) → new.reader.lines ≡ old.reader.lines + 1
-  pub end : result ≡ Ok None → new.reader.final_answer ≡ Some (Ok NoMore)
   -- what its reader returned
-  pub found : Result Next LineStop
-  pub reader : AdvancesLines state_of old.reader new.reader found
+  pub read : Result Next LineStop
+  pub found : IsReadFor result read
+  pub reader : AdvancesLines state_of old.reader new.reader read
   pub bounds : IsBounded new.reader
-  pub asked : AsksFor vector new.reader.ahead before after result
+  pub opened : OpensFor vector new.reader.ahead before after result
   pub reads : ReadsToEndIf (IsNotUnread result) before after

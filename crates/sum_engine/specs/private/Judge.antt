@@ -4,7 +4,8 @@ use Rattle.digest_kinds.specs.Bytes.{ByteString}
 use Rattle.sum_settings.specs.declared.stop.NoRoom.{NoRoom}
 use Rattle.sum_lines.specs.grammar.Entries.{EntryValue}
 use Rattle.sum_sources.specs.declared.{fault.Fault.TheVariants.NotFound, sources.hash_file.HashFault.HashFault}
-use Rattle.sum_engine.specs.{check.Judge.Verdict, check.Judge.Right, check.Judge.Wrong, check.Judge.Missing, check.Judge.Unread, declared.check.judge.ListedEntry.ListedEntry}
+use Rattle.sum_engine.specs.{check.Judge.Verdict, check.Judge.Right, check.Judge.Wrong, check.Judge.Missing}
+use Rattle.sum_engine.specs.{check.Judge.Unread, declared.check.judge.ListedEntry.ListedEntry}
 use Rattle.sum_sources.specs.declared.sources.hash_file.HashFault.TheVariants as hashing
 use Rattle.sum_sources.specs.declared.sources.source.OpenFault.TheVariants as faults
 

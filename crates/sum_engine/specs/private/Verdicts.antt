@@ -4,7 +4,8 @@ use Rattle.digest_kinds.specs.Bytes.{ByteString}
 use Rattle.sum_settings.specs.declared.stop.NoRoom.{NoRoom}
 use Rattle.sum_lines.specs.grammar.{Form.form_then, Form.line_form, ParsedLines.ParsedLine, ParsedLines.parse_line}
 use Rattle.sum_sources.specs.declared.line_reader.LineStop.TheVariants.{Memory}
-use Rattle.sum_engine.specs.check.{Judge.LineVerdict, Judge.HasNameRange, Verdicts.VerdictsValue, Verdicts.VerdictResult, Verdicts.counts_after}
+use Rattle.sum_engine.specs.check.{Judge.LineVerdict, Judge.HasNameRange, Verdicts.VerdictsValue}
+use Rattle.sum_engine.specs.check.{Verdicts.VerdictResult, Verdicts.counts_after}
 
 -- what this line says, if it was read last
 abbrev pub parsed_at : {I : Type 0} → VerdictsValue I → ByteString → ParsedLine

@@ -1,7 +1,7 @@
 //! Checking one manifest.
 ghost use Rattle.std.specs.Prelude.{◌≡◌, true, None, Ok, IfErr, codes, if◌then◌else◌};
 ghost use Rattle.sum_engine.specs.Execution.{Performs, ReadsToEndIf};
-ghost use Rattle.sum_engine.specs.Streams.{StopHasCause, none_or_one};
+ghost use Rattle.sum_engine.specs.Streams.{FailuresMatch};
 ghost use Rattle.sum_engine.specs.check.CheckOne.{StopsAtLine, check_behavior};
 ghost use Rattle.sum_engine.specs.{check.Verdicts.IsAtStart, private.CheckOne.RunsManifest};
 ghost use Rattle.sum_sources.specs.sources.WithStdin.{is_dash};
@@ -38,8 +38,8 @@ pub fn check_one<A: Allocator + Copy, S: Source, O: Sink, E: Sink>(
     ensures ahead { IfErr result (λ stop.
         StopsAtLine stop (λ w. check_behavior settings tool.now w name.now) name.now streams.old
         streams.new) }
-    // A stop has its cause: at most one more refusal of the source, or one more failure of one output.
-    ensures cause { StopHasCause none_or_one streams.old streams.new result }
+    // A write fault comes with one more failure, of one output.
+    ensures failures { FailuresMatch streams.old.outputs streams.new.outputs result }
 {
     let shown = shown_name(name);
     let input = match streams.inputs.open(name) {
@@ -72,7 +72,8 @@ fn shown_name(name: &[u8]) -> &[u8]
     }
 }
 
-// Steps through the manifest of a new checker to its end, and gives the manifest's input back.
+// Steps through the manifest of a new checker to its end, and gives the manifest's input back: each step handles one
+// line, and the last one the end.
 fn run_to_end<'a, A: Allocator, I: Input, S: Source, O: Sink, E: Sink>(
     alloc: A,
     mut checker: Checker<'a, I>,
@@ -85,27 +86,12 @@ fn run_to_end<'a, A: Allocator, I: Input, S: Source, O: Sink, E: Sink>(
         streams.new result.0 }
 {
     let mut line = Vec::new(alloc);
-    let result = check_lines(&mut checker, &mut line, streams);
-    (result, checker.into_inner())
-}
-
-// Steps through a manifest from its first line: each step handles one line, and the last one the end.
-fn check_lines<'a, A: Allocator, I: Input, S: Source, O: Sink, E: Sink>(
-    checker: &mut Checker<'a, I>,
-    line: &mut Vec<u8, A>,
-    streams: &mut Streams<S, O, E>,
-) -> Result<bool, Stop>
-    requires start { IsAtStart I.state checker.old.verdicts checker.old.verdicts.reader.input }
-    requires outcome { checker.old.outcome ≡ None }
-    ensures { RunsManifest checker.old.verdicts.rules checker.old.labels
-        (I.state checker.old.verdicts.reader.input)
-        (I.state checker.new.verdicts.reader.input) streams.old streams.new result }
-{
-    'lines: loop {
-        match checker.step(line, streams) {
-            Err(stop) => return Err(stop),
-            Ok(Progress::Ended(good)) => return Ok(good),
+    let result = 'lines: loop {
+        match checker.step(&mut line, streams) {
             Ok(Progress::Going) => {}
+            Ok(Progress::Ended(good)) => break Ok(good),
+            Err(stop) => break Err(stop),
         }
-    }
+    };
+    (result, checker.into_inner())
 }

@@ -1,10 +1,11 @@
 //! Checking a manifest, a line at a time.
 ghost use Rattle.digest_kinds.specs.Bytes.{LIMIT};
 ghost use Rattle.std.specs.Option.{ForSome};
-ghost use Rattle.std.specs.Prelude.{◌≡◌, ◌≤◌, None, Ok, IsTrue};
+ghost use Rattle.std.specs.Prelude.{◌≡◌, ◌≤◌, None};
 ghost use Rattle.std.specs.Result.{ForOk};
-ghost use Rattle.sum_engine.specs.check.{Checker.ReportsFound, Judge.HasNameRange, Rules.rules_of, Verdicts.is_whole};
+ghost use Rattle.sum_engine.specs.check.{Checker.ReportsFound, Judge.HasNameRange, Rules.rules_of};
 
+use crate::check::counts::is_good;
 use crate::check::judge::{LineVerdict, Verdict};
 use crate::check::progress::Progress;
 use crate::check::report::put_report;
@@ -87,7 +88,7 @@ impl<'a, I: Input> Checker<'a, I> {
     /// Returns the manifest's input, past the bytes that it has given. Bytes that were read ahead of the last line are
     /// lost.
     pub fn into_inner(self) -> I
-        ensures { result ≡ self.entry.verdicts.reader.input }
+        ensures input { result ≡ self.entry.verdicts.reader.input }
     {
         self.verdicts.into_inner()
     }
@@ -144,7 +145,6 @@ fn report_found<I: Input, O: Sink, E: Sink>(
     outputs: &mut Outputs<O, E>,
 ) -> Result<Progress, Stop>
     requires name_range { ForOk found (λ found. ForSome found (λ v. HasNameRange line.now v)) }
-    requires whole { found ≡ Ok None → IsTrue (is_whole verdicts.now.outcome) }
     ensures { ReportsFound verdicts.now labels.now line.now found outputs.old outputs.new result }
 {
     let rules = verdicts.rules();
@@ -156,8 +156,9 @@ fn report_found<I: Input, O: Sink, E: Sink>(
             outputs.write_err(&line, Progress::Ended(false))
         }
         Ok(None) => {
-            let ended = Progress::Ended(verdicts.is_good());
-            put_summary(outputs, rules, labels, verdicts.counts(), ended)
+            let counts = verdicts.counts();
+            let ended = Progress::Ended(is_good(rules, counts));
+            put_summary(outputs, rules, labels, counts, ended)
         }
         Ok(Some(found)) => {
             // An ignored line returns here, since each call would slow it.

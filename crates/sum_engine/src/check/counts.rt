@@ -1,7 +1,7 @@
 //! How many lines of a manifest have each verdict, and whether a manifest is good.
 ghost use Rattle.digest_kinds.specs.Bytes.{LIMIT};
 ghost use Rattle.std.specs.Prelude.{◌≡◌, ◌≤◌};
-ghost use Rattle.sum_engine.specs.check.Counts.{counts_and_line, entries, good, total};
+ghost use Rattle.sum_engine.specs.check.Counts.{counts_and_line, entry_count, is_manifest_good, total};
 ghost use Rattle.sum_sources.specs.declared.fault.Ending.TheVariants.{Whole};
 
 use crate::check::judge::Verdict;
@@ -47,7 +47,7 @@ impl Counts {
     /// How many of the lines are entries.
     pub(crate) fn entries(self) -> u64
         requires { total self ≤ LIMIT }
-        ensures { result ≡ entries self }
+        ensures { result ≡ entry_count self }
     {
         self.right + self.wrong + self.missing + self.unread
     }
@@ -55,7 +55,7 @@ impl Counts {
 
 /// Whether a manifest that was read whole is good.
 pub(crate) fn is_good(rules: CheckRules, counts: Counts) -> bool
-    ensures { result ≡ good rules Whole counts }
+    ensures { result ≡ is_manifest_good rules Whole counts }
 {
     counts.right != 0
         && counts.wrong == 0

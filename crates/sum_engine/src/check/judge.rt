@@ -1,8 +1,8 @@
 //! The verdict of a line.
-ghost use Rattle.std.specs.Prelude.{◌≡◌, false, IfOk, MatchResult, slice_range};
+ghost use Rattle.std.specs.Prelude.{◌≡◌, ◌≢◌, [], false, IfOk, MatchResult, slice_range};
 ghost use Rattle.sum_engine.specs.Behavior.{World};
-ghost use Rattle.sum_engine.specs.Execution.{Agrees, AsksNames, ReadsToEndIf, RefusesMemory, world_at};
-ghost use Rattle.sum_engine.specs.check.Judge.{HasNameRange, asks_of, is_unread, judge};
+ghost use Rattle.sum_engine.specs.Execution.{Agrees, OpensNames, ReadsToEndIf, RefusesMemory, world_at};
+ghost use Rattle.sum_engine.specs.check.Judge.{HasNameRange, asks_by, names_in_line, is_unread, judge};
 ghost use Rattle.sum_engine.specs.private.Judge.{listed_entry, verdict_of_hash};
 
 use crate::check::rules::CheckRules;
@@ -21,7 +21,7 @@ pub enum Verdict {
     Right,
     /// The file has a different digest.
     Wrong,
-    /// There is no such file, and it may be missing.
+    /// The file isn't there, and `ignore_missing` is set. Otherwise that is `Unread(Fault::NotFound)`.
     Missing,
     /// The file could not be opened or read.
     Unread(Fault),
@@ -40,8 +40,8 @@ pub struct LineVerdict {
 impl LineVerdict {
     /// Returns the name of its entry, in the line's vector as `next` has left it. It is empty if the line has no entry.
     pub fn name<'a>(self, line: &'a [u8]) -> &'a [u8]
-        requires { HasNameRange line.now self }
-        ensures { result.now ≡ slice_range line.now self.start self.stop }
+        requires range { HasNameRange line.now self }
+        ensures name { result.now ≡ slice_range line.now self.start self.stop }
     {
         &line[self.start..self.stop]
     }
@@ -62,9 +62,10 @@ pub(crate) fn judge<S: Source>(
     inputs: &mut Inputs<S>,
 ) -> Result<Verdict, NoRoom>
     ensures verdict { (w : World) → Agrees w inputs.new
-        → IfOk result (λ v. v ≡ judge rules (world_at w inputs.old) (listed_entry listed.now)) }
-    ensures asked { MatchResult result (λ v. AsksNames inputs.old inputs.new
-        (asks_of (record { number = 0; verdict = v; name = listed.now.name.now })))
+        → let is = judge rules (world_at w inputs.old) (listed_entry listed.now) in
+        MatchResult result (λ v. v ≡ is) (λ _. asks_by is listed.now.name.now ≢ []) }
+    ensures opened { MatchResult result (λ v. OpensNames inputs.old inputs.new
+        (names_in_line (record { number = 0; verdict = v; name = listed.now.name.now })))
         (λ _. RefusesMemory inputs.old inputs.new) }
     ensures reads { ReadsToEndIf (IfOk result (λ v. is_unread v ≡ false)) inputs.old inputs.new }
 {

@@ -2,7 +2,8 @@
 ghost use Rattle.std.specs.{List.concat, Prelude.◌≡◌, Prelude.[], Prelude.◌∷◌};
 ghost use Rattle.sum_engine.specs.{Streams.WritesAndReturns, check.Checker.Going};
 ghost use Rattle.sum_engine.specs.check.Report.{bad_line, err_by, out_by, tag_word};
-ghost use Rattle.sum_lines.specs.{Escape.escape, Escape.escape_differs, grammar.Shapes.mark, sinks.Output.GivesAll};
+ghost use Rattle.sum_lines.specs.{Escape.escape, Escape.escape_differs, grammar.Shapes.backslash_if};
+ghost use Rattle.sum_lines.specs.{sinks.Output.GivesAll};
 ghost use Rattle.sum_settings.specs.declared.settings.Report.TheVariants.{All};
 
 use crate::check::judge::Verdict;
@@ -64,7 +65,7 @@ fn put_name_line<'a, O: Sink>(
     text: &'a [u8],
 ) -> Result<(), SinkFault>
     ensures { GivesAll out.old out.new (concat
-        (mark (escape_differs name.now) ∷ escape name.now ∷ text.now ∷ [])) result }
+        (backslash_if (escape_differs name.now) ∷ escape name.now ∷ text.now ∷ [])) result }
 {
     let (mark, name) = mark_and_name(name);
     out.write(&Parts(&[Part::Bytes(mark), name, Part::Bytes(text)]))

@@ -1,6 +1,6 @@
 //! The verdicts of a manifest, without any text.
 ghost use Rattle.digest_kinds.specs.Bytes.{LIMIT};
-ghost use Rattle.std.specs.Prelude.{◌≡◌, ◌≤◌, ◌<◌, ◌&&◌, None, IfOk, IfSome, MatchResult};
+ghost use Rattle.std.specs.Prelude.{◌≡◌, ◌≢◌, ◌≤◌, ◌<◌, ◌&&◌, [], None, IfOk, IfSome, MatchResult};
 ghost use Rattle.sum_engine.specs.check.{Counts.counts_and_line, Counts.total, Rules.rules_of};
 
 use crate::check::counts::{Counts, is_good};
@@ -44,12 +44,14 @@ impl<I> Model for Verdicts<I> {
 
 impl<I: Input> Verdicts<I> {
     ghost use Rattle.sum_engine.specs.Behavior.{World};
-    ghost use Rattle.sum_engine.specs.Execution.{Agrees, AsksNames, ReadsToEndIf, RefusesMemory, world_at};
-    ghost use Rattle.sum_engine.specs.check.Counts.{good};
-    ghost use Rattle.sum_engine.specs.check.Judge.{HasNameRange, asks_of, line_verdict, line_verdict_value};
+    ghost use Rattle.sum_engine.specs.Execution.{Agrees, OpensNames, ReadsToEndIf, RefusesMemory, world_at};
+    ghost use Rattle.sum_engine.specs.check.Counts.{is_manifest_good};
+    ghost use Rattle.sum_engine.specs.check.Judge.{HasNameRange, names_in_line, line_verdict, line_verdict_value};
     ghost use Rattle.sum_engine.specs.check.Verdicts.{AdvancesVerdicts, HoldsInEachCheck, IsAtStart, IsNextVerdict};
     ghost use Rattle.sum_engine.specs.check.Verdicts.{IsNotUnread, KeepsOutcome, is_whole, outcome_in_next};
     ghost use Rattle.sum_engine.specs.private.Verdicts.{TakesLine, found_verdict, parsed_at};
+    ghost use Rattle.sum_lines.specs.grammar.Entries.{is_ignored};
+    ghost use Rattle.std.specs.Prelude.{false};
     ghost use Rattle.sum_sources.specs.declared.fault.Ending.TheVariants.{Whole};
 
     /// Creates the verdicts of the manifest that `input` gives, before its first line. `from_stdin` says whether the
@@ -79,14 +81,14 @@ impl<I: Input> Verdicts<I> {
     /// Returns the manifest's input, past the bytes that it has given. Bytes that were read ahead of the last line are
     /// lost.
     pub fn into_inner(self) -> I
-        ensures { result ≡ self.reader.input }
+        ensures input { result ≡ self.reader.input }
     {
         self.reader.into_inner()
     }
 
     /// Returns whether the manifest is good; false before `next` has returned that no line is left.
     pub fn is_good(&self) -> bool
-        ensures { result ≡ is_whole self.now.outcome && good self.now.rules Whole self.now.counts }
+        ensures value { result ≡ is_whole self.now.outcome && is_manifest_good self.now.rules Whole self.now.counts }
     {
         match self.outcome {
             Some(Ok(())) => is_good(self.rules, self.counts),
@@ -128,7 +130,8 @@ impl<I: Input> Verdicts<I> {
         // For every content and in every world that agree with what was read: the first of the verdicts that remained.
         ensures verdict { self.old.outcome ≡ None
             → HoldsInEachCheck I.state self.old self.new inputs.old inputs.new
-            (λ a b. IsNextVerdict self.old.rules line.new.items a b result) }
+            (λ a b. IsNextVerdict self.old.rules line.new.items
+            (RefusesMemory inputs.old inputs.new) a b result) }
         ensures name_range { IfOk result
             (λ found. IfSome found (λ v. HasNameRange line.new.items v)) }
         // What was opened, the lines counted, and the cause of a stop.
@@ -152,7 +155,7 @@ impl<I: Input> Verdicts<I> {
                 return Err(stop);
             }
         }
-        // Before `judge_line`, which clears stack space for an entry.
+        // Here, since `judge_line` clears stack space for an entry.
         if is_ignored(line) {
             return Ok(Some(self.count_verdict(Verdict::Ignored, 0, 0)));
         }
@@ -166,20 +169,23 @@ impl<I: Input> Verdicts<I> {
         }
     }
 
-    // The verdict of the line that was read last, which is counted. Returns `NoRoom` if the source is out of memory.
+    // The verdict of the line that was read last, which isn't ignored. It is counted. Returns `NoRoom` if the source is
+    // out of memory.
     fn judge_line<A: Allocator, S: Source>(
         &mut self,
         line: &mut Vec<u8, A>,
         inputs: &mut Inputs<S>,
     ) -> Result<LineVerdict, NoRoom>
         requires few { total self.old.counts < self.old.reader.lines }
+        requires other { is_ignored line.old.items ≡ false }
         ensures verdict { (w : World) → Agrees w inputs.new
-            → IfOk result (λ v. line_verdict_value line.new.items v
-            ≡ line_verdict self.old.rules (world_at w inputs.old) self.old.reader.lines
-            (parsed_at self.old line.old.items)) }
+            → let is = line_verdict self.old.rules (world_at w inputs.old) self.old.reader.lines
+            (parsed_at self.old line.old.items) in
+            MatchResult result (λ v. line_verdict_value line.new.items v ≡ is)
+            (λ _. names_in_line is ≢ []) }
         // What was opened and read, and that the line was counted.
-        ensures asked { MatchResult result
-            (λ v. AsksNames inputs.old inputs.new (asks_of (line_verdict_value line.new.items v)))
+        ensures opened { MatchResult result
+            (λ v. OpensNames inputs.old inputs.new (names_in_line (line_verdict_value line.new.items v)))
             (λ _. RefusesMemory inputs.old inputs.new) }
         ensures takes { TakesLine self.old self.new line.old.items line.new.items result }
         ensures reads { ReadsToEndIf (IsNotUnread (found_verdict result)) inputs.old inputs.new }
@@ -187,8 +193,8 @@ impl<I: Input> Verdicts<I> {
         let (reading, form) = read_line(self.rules.algo, self.form, line);
         self.form = form;
         match reading {
-            Reading::Ignored => Ok(self.count_verdict(Verdict::Ignored, 0, 0)),
-            Reading::Bad => Ok(self.count_verdict(Verdict::Bad, 0, 0)),
+            // No line here is ignored: `next` has counted these.
+            Reading::Ignored | Reading::Bad => Ok(self.count_verdict(Verdict::Bad, 0, 0)),
             Reading::Entry {
                 kind,
                 digest,

@@ -1,7 +1,9 @@
 -- What the lines of a manifest say: a line is ignored, or it spells an entry.
-use Rattle.std.specs.{Prelude.ℕ, Prelude.◌≡◌, Prelude.◌<◌, Prelude.◌⊎◌, Prelude.◌==◌, Prelude.Bool, Prelude.true, Prelude.[], Prelude.◌∷◌, Prelude.IsTrue, Prelude.if◌then◌else◌, Prelude.All, Str.byte}
+use Rattle.std.specs.{Prelude.ℕ, Prelude.◌≡◌, Prelude.◌<◌, Prelude.◌⊎◌, Prelude.◌==◌, Prelude.Bool, Prelude.true}
+use Rattle.std.specs.{Prelude.[], Prelude.◌∷◌, Prelude.IsTrue, Prelude.if◌then◌else◌, Prelude.All, Str.byte}
 use Rattle.digest_kinds.specs.{Bytes.ByteString, Kind.KindValue, declared.algo.Algos.Algos}
-use Rattle.sum_lines.specs.grammar.{Form.Form, Form.Undecided, Form.Standard, Form.Reversed, Form.begins_standard, Shapes.IsPlain, Shapes.IsTagged}
+use Rattle.sum_lines.specs.grammar.{Form.Form, Form.Undecided, Form.Standard, Form.Reversed, Form.begins_standard}
+use Rattle.sum_lines.specs.grammar.{Shapes.IsPlain, Shapes.IsTagged}
 
 -- whether a line is ignored: it is empty or begins with `#`
 abbrev pub is_ignored : ByteString → Bool
@@ -21,11 +23,11 @@ pub record EntryValue : Type 0 where
   pub name : ByteString
 
 -- a line spells an entry in a list of that form: the line's raw name spells the entry's name, which has no NUL
-pub record IsEntry (escape : ByteString → ByteString) (algos : Algos) (form : Form) (line : ByteString)
-    (entry : EntryValue) : Type 0 where
+pub record IsEntry (escaping : ByteString → ByteString) (algos : Algos) (form : Form) (line : ByteString)
+    (listed : EntryValue) : Type 0 where
   pub escaped : Bool
   pub raw : ByteString
-  pub shape : IsTagged algos line escaped entry.kind entry.digest raw
-      ⊎ ((tail : ByteString) × IsPlain algos line escaped entry.kind entry.digest tail × IsRawName form tail raw)
-  pub no_nul : All (λ b. 0 < b) entry.name
-  pub spells : raw ≡ (if escaped then escape entry.name else entry.name)
+  pub shape : IsTagged algos line escaped listed.kind listed.digest raw
+      ⊎ ((tail : ByteString) × IsPlain algos line escaped listed.kind listed.digest tail × IsRawName form tail raw)
+  pub no_nul : All (λ b. 0 < b) listed.name
+  pub spells : raw ≡ (if escaped then escaping listed.name else listed.name)

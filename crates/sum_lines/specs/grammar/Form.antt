@@ -1,8 +1,10 @@
 -- The form of a list of lines: its first plain line decides it.
-use Rattle.std.specs.{Option.option_map_or, Prelude.◌≡◌, Prelude.◌⊎◌, Prelude.◌==◌, Prelude.◌||◌, Prelude.Bool, Prelude.false, Prelude.List, Prelude.[], Prelude.◌∷◌, Prelude.if◌then◌else◌, Str.byte}
+use Rattle.std.specs.{Option.option_map_or, Prelude.◌≡◌, Prelude.◌⊎◌, Prelude.◌==◌, Prelude.◌||◌, Prelude.Bool}
+use Rattle.std.specs.{Prelude.false, Prelude.List, Prelude.[], Prelude.◌∷◌, Prelude.if◌then◌else◌, Str.byte}
 use Rattle.digest_kinds.specs.{Bytes.ByteString, Kind.KindValue, declared.algo.Algos.Algos}
 use Rattle.sum_lines.specs.grammar.{LineParts.plain_parts, Shapes.IsPlain}
-pub use Rattle.sum_lines.specs.declared.reading.read_line.Form.{Form, TheVariants.Undecided, TheVariants.Standard, TheVariants.Reversed}
+pub use Rattle.sum_lines.specs.declared.reading.read_line.Form.{Form, TheVariants.Undecided, TheVariants.Standard}
+pub use Rattle.sum_lines.specs.declared.reading.read_line.Form.{TheVariants.Reversed}
 
 -- whether a plain line's tail is that of a Standard list: it begins with a space or a star, and more follows
 abbrev pub begins_standard : ByteString → Bool
@@ -18,14 +20,14 @@ IsForm algos (line ∷ later) form = ((escaped : Bool) × (kind : KindValue) × 
     × IsForm algos later form)
 
 -- the form of a list of lines, computed. By the law `one_form` it need not be believed
-abbrev pub form : Algos → List ByteString → Form
-form algos [] = Undecided
-form algos (line ∷ later) = option_map_or (λ parts. if begins_standard parts.text then Standard else Reversed)
-    (plain_parts algos line) (form algos later)
+abbrev pub form_of : Algos → List ByteString → Form
+form_of algos [] = Undecided
+form_of algos (line ∷ later) = option_map_or (λ parts. if begins_standard parts.text then Standard else Reversed)
+    (plain_parts algos line) (form_of algos later)
 
 -- the form of one line
 abbrev pub line_form : Algos → ByteString → Form
-line_form algos line = form algos (line ∷ [])
+line_form algos line = form_of algos (line ∷ [])
 
 -- a form, and then that of later lines: a form that is decided stays
 abbrev pub form_then : Form → Form → Form

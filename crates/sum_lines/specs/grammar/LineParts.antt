@@ -1,8 +1,11 @@
 -- The parts of a line of either shape, computed. By the law `parse_is_grammar` they need not be believed.
-use Rattle.std.specs.Prelude.{◌==◌, ◌&&◌, nat_lt, Bool, true, false, length, drop, codes, Option, None, Some, find, if◌then◌else◌}
-use Rattle.std.specs.{List.starts_with, List.before_first, List.after_first, Option.option_or, Path.rsplit_once, Result.result_ok, Str.byte}
+use Rattle.std.specs.Prelude.{◌==◌, ◌&&◌, nat_lt, Bool, true, false, length, drop, codes, Option, None, Some, find}
+use Rattle.std.specs.Prelude.{if◌then◌else◌}
+use Rattle.std.specs.{List.starts_with, List.before_first, List.after_first, Option.option_or, Path.rsplit_once}
+use Rattle.std.specs.{Result.result_ok, Str.byte}
 use Rattle.hex.specs.Hex.{decode_of}
-use Rattle.digest_kinds.specs.{Algo.all_algos, Algo.has_len, Algo.tag, Bytes.ByteString, Bytes.◌>>=◌, Bytes.after_while, Kind.KindValue, KindText.kind_and_rest}
+use Rattle.digest_kinds.specs.{Algo.all_algos, Algo.has_len, Algo.tag_of, Bytes.ByteString, Bytes.◌>>=◌}
+use Rattle.digest_kinds.specs.{Bytes.after_while, Kind.KindValue, KindText.kind_and_rest}
 use Rattle.digest_kinds.specs.declared.algo.{Algo.Algo, Algos.Algos, Algos.TheVariants.One, Algos.TheVariants.Any}
 use Rattle.sum_lines.specs.grammar.Shapes.{is_blank}
 
@@ -33,14 +36,14 @@ strip_prefix text bytes = if starts_with ◌==◌ bytes text then Some (drop (le
 
 -- the one of these algorithms whose tag begins the bytes
 abbrev pub tag_in : Algos → ByteString → Option Algo
-tag_in (One algo) bytes = if starts_with ◌==◌ bytes (tag algo) then Some algo else None
-tag_in Any bytes = find (λ a. starts_with ◌==◌ bytes (tag a)) all_algos
+tag_in (One algo) bytes = if starts_with ◌==◌ bytes (tag_of algo) then Some algo else None
+tag_in Any bytes = find (λ a. starts_with ◌==◌ bytes (tag_of a)) all_algos
 
 -- a tagged line's parts; the last parenthesis ends the name
 unfoldable pub tagged_parts : Algos → ByteString → Option LinePartsValue
 tagged_parts algos line = let text = mark_and_rest (after_while is_blank line) in do
   algo ← tag_in algos text.1
-  named ← kind_and_rest algo (drop (length (tag algo)) text.1)
+  named ← kind_and_rest algo (drop (length (tag_of algo)) text.1)
   inner ← option_or (strip_prefix (codes " (") named.1) (strip_prefix (codes "(") named.1)
   name ← rsplit_once (byte ")") inner
   digits ← strip_prefix (codes "=") (after_while is_blank name.1)

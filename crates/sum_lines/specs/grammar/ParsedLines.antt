@@ -1,9 +1,12 @@
 -- How a line parses, computed. It need not be believed: by the law `parse_is_grammar` it is what the line grammar says.
-use Rattle.std.specs.Prelude.{◌≡◌, ◌≤◌, ◌==◌, ◌∷◌, length, drop, slice_range, nat_lt, bytes_eq, ⊤, Option, None, Some, if◌then◌else◌}
+use Rattle.std.specs.Prelude.{◌≡◌, ◌≤◌, ◌==◌, ◌∷◌, length, drop, slice_range, nat_lt, bytes_eq, ⊤, Option, None, Some}
+use Rattle.std.specs.Prelude.{if◌then◌else◌}
 use Rattle.std.specs.{Option.option_or, Option.option_map_or, List.list_all, Str.byte}
 use Rattle.digest_kinds.specs.{Bytes.ByteString, Bytes.◌>>=◌, declared.algo.Algos.Algos}
 use Rattle.sum_lines.specs.{Escape.escape, declared.reading.read_line.Reading.Reading}
-use Rattle.sum_lines.specs.grammar.{Entries.EntryValue, Entries.is_ignored, Form.Form, Form.Undecided, Form.Standard, Form.Reversed, Form.begins_standard, LineParts.LinePartsValue, LineParts.tagged_parts, LineParts.plain_parts}
+use Rattle.sum_lines.specs.grammar.{Entries.EntryValue, Entries.is_ignored, Form.Form, Form.Undecided, Form.Standard}
+use Rattle.sum_lines.specs.grammar.{Form.Reversed, Form.begins_standard, LineParts.LinePartsValue}
+use Rattle.sum_lines.specs.grammar.{LineParts.tagged_parts, LineParts.plain_parts}
 use Rattle.sum_lines.specs.declared.reading.read_line.Reading.TheVariants as readings
 
 -- the bytes, with one byte for a backslash and the byte after it: newline for `\n`, carriage return for `\r`

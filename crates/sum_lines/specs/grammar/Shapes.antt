@@ -3,15 +3,17 @@
 use Rattle.std.specs.Prelude.{ℕ, ◌≡◌, ◌<◌, ◌==◌, ◌||◌, ⊤, Bool, [], ◌∷◌, ◌++◌, length, codes, IsTrue, Ok, if◌then◌else◌}
 use Rattle.std.specs.{List.AllPass, Str.byte}
 use Rattle.hex.specs.Hex.{decode_of}
-use Rattle.digest_kinds.specs.{Algo.has_len, Algo.tag, Bytes.ByteString, Kind.KindValue, KindText.IsWidth, declared.algo.Algo.Algo, declared.algo.Algos.Algos, declared.algo.Algos.TheVariants.One, declared.algo.Algos.TheVariants.Any}
+use Rattle.digest_kinds.specs.{Algo.has_len, Algo.tag_of, Bytes.ByteString, Kind.KindValue, KindText.IsWidth}
+use Rattle.digest_kinds.specs.{declared.algo.Algo.Algo, declared.algo.Algos.Algos, declared.algo.Algos.TheVariants.One}
+use Rattle.digest_kinds.specs.{declared.algo.Algos.TheVariants.Any}
 
 -- whether a byte is a blank: a space or a tab
 abbrev pub is_blank : ℕ → Bool
 is_blank b = b == byte " " || b == byte "\t"
 
 -- the backslash that begins a line whose name is escaped
-abbrev pub mark : Bool → ByteString
-mark escaped = if escaped then codes "\\" else []
+abbrev pub backslash_if : Bool → ByteString
+backslash_if escaped = if escaped then codes "\\" else []
 
 -- A plain line: digits, one blank, and a tail that isn't empty. The digits are hexadecimal, in either case. They spell
 -- a digest of a length that the one algorithm has. If any algorithm may be named, no line is plain.
@@ -27,7 +29,7 @@ pub record IsPlain (algos : Algos) (line : ByteString) (escaped : Bool) (kind : 
   pub size : length digest ≡ kind.len
   pub is_one_blank : IsTrue (is_blank blank)
   pub some : 0 < length tail
-  pub whole : line ≡ blanks ++ (mark escaped ++ (digits ++ (blank ∷ tail)))
+  pub whole : line ≡ blanks ++ (backslash_if escaped ++ (digits ++ (blank ∷ tail)))
 
 -- an algorithm is among those that a list of lines may name
 abbrev pub Allows : Algos → Algo → Type 0
@@ -52,5 +54,6 @@ pub record IsTagged (algos : Algos) (line : ByteString) (escaped : Bool) (kind :
   pub after_blanks : AllPass is_blank after
   pub spelled : decode_of digits ≡ Ok digest
   pub size : length digest ≡ kind.len
-  pub whole : line ≡ blanks ++ (mark escaped ++ (tag kind.algo ++ (width ++ ((if gap then codes " (" else codes "(")
+  pub whole : line ≡ blanks ++ (backslash_if escaped
+      ++ (tag_of kind.algo ++ (width ++ ((if gap then codes " (" else codes "(")
       ++ (raw ++ (codes ")" ++ (before ++ (codes "=" ++ (after ++ digits)))))))))

@@ -2,9 +2,12 @@
 use Rattle.std.specs.List.{position_or_len, before_first, after_first}
 use Rattle.std.specs.Prelude.{ℕ, ◌≡◌, ◌+◌, ◌<◌, ◌≤◌, length, drop, slice_range, slice_index, IsTrue, None, Some, Ok}
 use Rattle.hex.specs.Hex.{decode_of}
-use Rattle.digest_kinds.specs.{Algo.has_len, Bytes.ByteString, Bytes.after_while, declared.algo.Algo.Algo, declared.algo.Algos.Algos, declared.algo.Algos.TheVariants.One}
-use Rattle.sum_lines.specs.declared.reading.{beginnings.Beginning.Beginning, line_parts.Front.Front, line_parts.LineParts.LineParts}
-use Rattle.sum_lines.specs.grammar.{LineParts.LinePartsValue, LineParts.mark_and_rest, LineParts.plain_parts, LineParts.tag_in, LineParts.tagged_parts, Shapes.is_blank}
+use Rattle.digest_kinds.specs.{Algo.has_len, Bytes.ByteString, Bytes.after_while, declared.algo.Algo.Algo}
+use Rattle.digest_kinds.specs.{declared.algo.Algos.Algos, declared.algo.Algos.TheVariants.One}
+use Rattle.sum_lines.specs.declared.reading.{beginnings.Beginning.Beginning, line_parts.Front.Front}
+use Rattle.sum_lines.specs.declared.reading.{line_parts.LineParts.LineParts}
+use Rattle.sum_lines.specs.grammar.{LineParts.LinePartsValue, LineParts.mark_and_rest, LineParts.plain_parts}
+use Rattle.sum_lines.specs.grammar.{LineParts.tag_in, LineParts.tagged_parts, Shapes.is_blank}
 use Rattle.sum_lines.specs.declared.reading.beginnings.Beginning.TheVariants as begun
 
 -- the parts of a line whose text is that range

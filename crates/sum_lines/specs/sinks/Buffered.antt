@@ -1,5 +1,5 @@
--- A buffer over a sink, and what a call that writes a text to it does.
-use Rattle.std.specs.Prelude.{◌≡◌, ◌<◌, ◌%◌, [], ◌++◌, length, IsTrue, ⊤, ◌⊎◌, Result, Ok, Err, IsOk, OnErr}
+-- A buffer over a sink.
+use Rattle.std.specs.Prelude.{◌≡◌, ◌<◌, ◌%◌, [], ◌++◌, length, IsTrue, ⊤, Result, Ok, Err}
 use Rattle.digest_kinds.specs.Bytes.{ByteString}
 use Rattle.sum_lines.specs.{declared.sinks.buffered.TheConstants.CAPACITY, sinks.Output.GivesAll, sinks.Sink.SinkState}
 
@@ -36,9 +36,3 @@ pub record FailsToWrite (before after : BufferState) (text : ByteString) : Type 
 abbrev pub WritesAll : {E : Type 0} → BufferState → BufferState → ByteString → Result ⊤ E → Type 0
 WritesAll before after text (Ok done) = Accepts before after text
 WritesAll before after text (Err fault) = FailsToWrite before after text
-
--- a full buffer is given to the sink; any other one has room, and stays
-abbrev pub MakesRoom : {E : Type 0} → BufferState → BufferState → Result ⊤ E → Type 0
-MakesRoom before after result = ((length before.buffered ≡ CAPACITY) × (after.buffered ≡ [])
-    × GivesAll before.sink.output after.sink.output before.buffered result × OnErr result (IsTrue after.sink.flushed))
-    ⊎ ((length before.buffered < CAPACITY) × (after ≡ before) × IsOk result)

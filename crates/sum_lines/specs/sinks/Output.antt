@@ -1,7 +1,8 @@
--- What an output gets: a text, piece by piece.
-use Rattle.std.specs.Prelude.{ℕ, ◌≡◌, ◌<◌, ◌+◌, ◌/◌, ⊤, ◌⊎◌, List, [], ◌∷◌, ◌++◌, length, flat_map, filter_map, Option, None, Some, Result, Ok, Err}
-use Rattle.std.specs.Simd.{first_chunks}
+-- What an output got, and which events happened to it.
+use Rattle.std.specs.Prelude.{ℕ, ◌≡◌, ◌<◌, ◌+◌, ⊤, ◌⊎◌, List, [], ◌∷◌, ◌++◌, length, filter_map, Option, None, Some}
+use Rattle.std.specs.Prelude.{Result, Ok, Err}
 use Rattle.digest_kinds.specs.Bytes.{ByteString}
+pub use Rattle.sum_lines.specs.sinks.Texts.{OutputEvent, offer_piece, write_byte, pieces_of, byte_events, output_events}
 
 -- what an output got: the pieces that it was offered, one per write; the bytes of them that it wrote; its failed calls
 pub record OutputState : Type 0 where
@@ -9,28 +10,10 @@ pub record OutputState : Type 0 where
   pub written : ByteString
   pub failures : ℕ
 
--- what an output gets: a piece is offered to it; or a byte is written, and these bytes of its piece are left
-pub data OutputEvent : Type 0 where
-  offer_piece : ByteString → OutputEvent
-  write_byte : ℕ → ByteString → OutputEvent
-
 -- the byte that an event writes
 abbrev pub written_byte : OutputEvent → Option ℕ
 written_byte (write_byte b left) = Some b
 written_byte event = None
-
--- the pieces of a text: 8,192 bytes each, and what is left; so a text of at most 8,192 bytes is one piece
-abbrev pub pieces : ByteString → List ByteString
-pieces text = first_chunks 8192 ((length text + 8191) / 8192) text
-
--- the events of a piece's bytes, which are written one after another
-abbrev pub byte_events : ByteString → List OutputEvent
-byte_events [] = []
-byte_events (b ∷ left) = write_byte b left ∷ byte_events left
-
--- the events of a text: each piece is offered, and then its bytes are written
-abbrev pub output_events : ByteString → List OutputEvent
-output_events text = flat_map (λ piece. offer_piece piece ∷ byte_events piece) (pieces text)
 
 -- exactly the pieces of these events were offered, in order; but what a write left of a piece may be offered again
 abbrev pub OffersEach : List ByteString → List ByteString → List OutputEvent → Type 0

@@ -1,7 +1,10 @@
 -- The text of a list of parts, one after another.
 use Rattle.std.specs.Prelude.{List, flat_map, decimal}
 use Rattle.digest_kinds.specs.Bytes.{ByteString}
-use Rattle.sum_lines.specs.{Escape.escape, declared.writing.parts.Part.Part, declared.writing.parts.Part.TheVariants.Bytes, declared.writing.parts.Part.TheVariants.Escaped, declared.writing.parts.Part.TheVariants.Number}
+use Rattle.sum_lines.specs.{Escape.escape, declared.writing.parts.Part.Part}
+use Rattle.sum_lines.specs.{declared.writing.parts.Part.TheVariants.Bytes}
+use Rattle.sum_lines.specs.{declared.writing.parts.Part.TheVariants.Escaped}
+use Rattle.sum_lines.specs.{declared.writing.parts.Part.TheVariants.Number}
 
 -- the text of one part
 abbrev pub part_text : Part → ByteString

@@ -124,7 +124,7 @@ fn read_begun<A: Allocator>(
 
 /// Returns whether a line of a manifest is ignored: it is empty or begins with `#`.
 pub fn is_ignored(line: &[u8]) -> bool
-    ensures { result ≡ is_ignored line.now }
+    ensures value { result ≡ is_ignored line.now }
 {
     match line {
         [] => true,

@@ -1,6 +1,7 @@
 //! A buffer over a sink.
 ghost use Rattle.std.specs.Prelude.{◌≡◌, ◌<◌, ◌≤◌, ◌-◌, ◌+◌, ◌++◌, [], length, min, take, IsTrue, OnErr, MatchResult};
-ghost use Rattle.sum_lines.specs.sinks.Buffered.{Accepts, FailsToWrite, IsFlushed, WritesAll, MakesRoom};
+ghost use Rattle.sum_lines.specs.sinks.Buffered.{Accepts, FailsToWrite, IsFlushed, WritesAll};
+ghost use Rattle.sum_lines.specs.private.Buffered.{MakesRoom};
 ghost use Rattle.sum_lines.specs.sinks.Output.{GivesAll};
 
 use crate::sinks::sink::{Sink, SinkFault, give_all};
@@ -9,9 +10,11 @@ use std::marker::Model;
 /// The number of bytes that a buffer has room for.
 pub const CAPACITY: usize = 8192;
 
-/// A buffer over a sink. It buffers what it accepts until it is flushed, or until it is full and gets one more byte.
-/// Then it offers the sink everything buffered in one piece. So a line of at most [`CAPACITY`] bytes is offered in one
-/// piece if nothing was buffered before the line and the buffer is flushed at its end.
+/// A buffer over a sink, which offers the sink everything buffered in one piece when it is flushed, or when it is full
+/// and gets one more byte.
+///
+/// A line of at most [`CAPACITY`] bytes is offered in one piece if nothing was buffered before the line and the buffer
+/// is flushed at its end.
 ///
 /// A call that returns `SinkFault` leaves nothing buffered: a prefix of the buffered bytes and of the call's text was
 /// written, and the rest is lost. If the call doesn't flush, as with [`put_all`], that prefix is a proper one.
@@ -36,7 +39,7 @@ impl<S: Sink> Model for Buffered<S> {
 impl<S: Sink> Buffered<S> {
     /// Creates an empty buffer over `sink`. It is flushed if the sink is.
     pub fn new(sink: S) -> Self
-        ensures { result ≡ record { sink = S.state sink; buffered = [] } }
+        ensures state { result ≡ record { sink = S.state sink; buffered = [] } }
     {
         Buffered {
             sink,
@@ -47,14 +50,14 @@ impl<S: Sink> Buffered<S> {
 
     /// Returns the sink below it.
     pub fn get_ref(&self) -> &S
-        ensures { S.state result.now ≡ self.now.sink }
+        ensures sink { S.state result.now ≡ self.now.sink }
     {
         &self.sink
     }
 
     /// Returns the sink below it. What is buffered is lost.
     pub fn into_inner(self) -> S
-        ensures { S.state result ≡ self.sink }
+        ensures sink { S.state result ≡ self.sink }
     {
         self.sink
     }
@@ -121,7 +124,7 @@ fn copy_after(buffer: &mut [u8], len: usize, piece: &[u8]) -> usize
 /// Writes all of the bytes to the buffer.
 #[tactic(auto, using(crate::proofs::SinkLemmas::at_first))]
 pub fn put_all<S: Sink>(sink: &mut Buffered<S>, bytes: &[u8]) -> Result<(), SinkFault>
-    ensures { WritesAll sink.old sink.new bytes.now result }
+    ensures text { WritesAll sink.old sink.new bytes.now result }
 {
     let mut rest = bytes;
     while !rest.is_empty() {

@@ -14,10 +14,10 @@ pub trait Text {
 
     /// Writes the text to the buffer, without a flush.
     fn put<S: Sink>(&self, sink: &mut Buffered<S>) -> Result<(), SinkFault>
-        ensures { WritesAll sink.old sink.new (text self.now) result };
+        ensures text { WritesAll sink.old sink.new (text self.now) result };
 }
 
-/// An output over a sink. Between its calls nothing is buffered, and the sink is flushed.
+/// An output over a sink: between its calls nothing is buffered, and the sink is flushed.
 #[derive(Debug, Drop)]
 pub struct Output<S: Sink> {
     buffer: Buffered<S>,
@@ -36,8 +36,8 @@ impl<S: Sink> Model for Output<S> {
 impl<S: Sink> Output<S> {
     /// Creates an output over a sink that is flushed, as each is before its first call.
     pub fn new(sink: S) -> Self
-        requires { IsTrue (S.state sink).flushed }
-        ensures { result ≡ (S.state sink).output }
+        requires flushed { IsTrue (S.state sink).flushed }
+        ensures state { result ≡ (S.state sink).output }
     {
         Output {
             buffer: Buffered::new(sink),
@@ -46,14 +46,14 @@ impl<S: Sink> Output<S> {
 
     /// Returns the sink below it.
     pub fn get_ref(&self) -> &S
-        ensures { S.state result.now ≡ record { output = self.now; flushed = true } }
+        ensures sink { S.state result.now ≡ record { output = self.now; flushed = true } }
     {
         self.buffer.get_ref()
     }
 
     /// Returns the sink below it.
     pub fn into_inner(self) -> S
-        ensures { S.state result ≡ record { output = self; flushed = true } }
+        ensures sink { S.state result ≡ record { output = self; flushed = true } }
     {
         self.buffer.into_inner()
     }
@@ -61,7 +61,7 @@ impl<S: Sink> Output<S> {
     /// Writes a text, in one piece if it has at most [`CAPACITY`](crate::CAPACITY) bytes, and flushes the sink. Returns
     /// `SinkFault` if that fails; a prefix of the text was then written.
     pub fn write<T: Text>(&mut self, text: &T) -> Result<(), SinkFault>
-        ensures { GivesAll self.old self.new (T.text text.now) result }
+        ensures text { GivesAll self.old self.new (T.text text.now) result }
     {
         text.put(&mut self.buffer)?;
         self.buffer.flush()

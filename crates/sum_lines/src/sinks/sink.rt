@@ -6,8 +6,10 @@ ghost use Rattle.sum_lines.specs.sinks.Sink.{SinkState, WritesSome, Flushes};
 use sum_settings::Stop;
 use thiserror::Error;
 
-/// A call of a sink has failed. Each function that writes to a buffer returns it if the sink below fails;
-/// [`Buffered`](crate::Buffered) says what was written then.
+/// A call of a sink has failed.
+///
+/// Each function that writes to a buffer returns it if the sink below fails; [`Buffered`](crate::Buffered) says what
+/// was written then.
 #[derive(Clone, Copy, Debug, PartialEq, Eq, Error)]
 #[error("a write failed")]
 pub struct SinkFault;
@@ -23,8 +25,9 @@ impl From<SinkFault> for Stop {
     }
 }
 
-/// A destination of bytes, which writes those that it accepts at once and buffers none. [`Buffered`](crate::Buffered)
-/// buffers bytes for a sink.
+/// A destination of bytes, which writes those that it accepts at once and buffers none.
+///
+/// [`Buffered`](crate::Buffered) buffers bytes for a sink.
 ///
 /// A call that returns `SinkFault` counts as one more failure. It leaves the sink flushed: what was held back below the
 /// sink is lost.

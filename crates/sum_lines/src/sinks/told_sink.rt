@@ -48,7 +48,7 @@ impl<const N: usize> ToldSink<N> {
 
     /// Returns the bytes that were written.
     pub fn bytes(&self) -> &[u8]
-        ensures { result.now ≡ self.now.state.output.written }
+        ensures bytes { result.now ≡ self.now.state.output.written }
     {
         &self.bytes[..self.len]
     }
@@ -75,18 +75,18 @@ impl<const N: usize> Sink for ToldSink<N> {
         ensures room_on_err { OnErr result (self.new.room ≡ self.old.room) }
     {
         if piece.is_empty() {
-            self.log = self.log.and(&Offer(piece, &[]));
+            self.log = self.log.with_note(&Offer(piece, &[]));
             return Ok(0);
         }
         let count = piece.len().min(self.limit - self.len);
         if count == 0 {
-            self.log = self.log.and(&Offer(piece, &[])).and(&SinkFault);
+            self.log = self.log.with_note(&Offer(piece, &[])).with_note(&SinkFault);
             return Err(SinkFault);
         }
         let bytes = &mut self.bytes[..];
         bytes[self.len..self.len + count].copy_from_slice(&piece[..count]);
         self.len += count;
-        self.log = self.log.and(&Offer(piece, &piece[..count]));
+        self.log = self.log.with_note(&Offer(piece, &piece[..count]));
         Ok(count)
     }
 
@@ -96,7 +96,7 @@ impl<const N: usize> Sink for ToldSink<N> {
         ensures room { self.new.room ≡ self.old.room }
         ensures bytes { Flushes self.old.state self.new.state result }
     {
-        self.log = self.log.and(&Flushed);
+        self.log = self.log.with_note(&Flushed);
         Ok(())
     }
 }

@@ -58,7 +58,7 @@ fn put_part<S: Sink>(sink: &mut Buffered<S>, part: Part) -> Result<(), SinkFault
 
 /// Writes the number's decimal digits, without a leading zero.
 pub fn put_number<S: Sink>(sink: &mut Buffered<S>, number: u64) -> Result<(), SinkFault>
-    ensures { WritesAll sink.old sink.new (decimal number) result }
+    ensures text { WritesAll sink.old sink.new (decimal number) result }
 {
     let mut buffer = Buffer::new();
     put_all(sink, buffer.format(number).as_bytes())

@@ -1,8 +1,10 @@
 //! The line that is written for a name and its digest.
 ghost use Rattle.hex.specs.Hex.{encode_lower};
 ghost use Rattle.std.specs.Prelude.{◌≡◌, length};
-ghost use Rattle.sum_lines.specs.{Escape.escape, Escape.escape_differs, grammar.Shapes.mark, sinks.Buffered.WritesAll};
-ghost use Rattle.sum_lines.specs.writing.{DigestLine.layout, DigestLine.line, Parts.part_text};
+ghost use Rattle.sum_lines.specs.{Escape.escape, Escape.escape_differs, grammar.Shapes.backslash_if};
+ghost use Rattle.sum_lines.specs.{sinks.Buffered.WritesAll};
+ghost use Rattle.sum_lines.specs.writing.{Parts.part_text};
+ghost use Rattle.sum_lines.specs.writing.PutLine.{layout, digest_line};
 
 use crate::escape::needs_escape;
 use crate::sinks::buffered::{Buffered, put_all};
@@ -27,9 +29,9 @@ pub struct DigestLine<'a> {
 }
 
 impl<'a> Text for DigestLine<'a> {
-    ghost use Rattle.sum_lines.specs.writing.DigestLine.{line};
+    ghost use Rattle.sum_lines.specs.writing.PutLine.{digest_line};
 
-    ghost text = { λ l. line l.style l.kind l.name.now l.digest.now };
+    ghost text = { λ l. digest_line l.style l.kind l.name.now l.digest.now };
 
     fn put<S: Sink>(&self, sink: &mut Buffered<S>) -> Result<(), SinkFault> {
         put_line(sink, self.style, self.kind, self.name, self.digest)
@@ -45,8 +47,8 @@ pub fn put_line<S: Sink>(
     name: &[u8],
     digest: &Digest,
 ) -> Result<(), SinkFault>
-    requires { length digest.now ≡ kind.len }
-    ensures { WritesAll sink.old sink.new (line style kind name.now digest.now) result }
+    requires size { length digest.now ≡ kind.len }
+    ensures text { WritesAll sink.old sink.new (digest_line style kind name.now digest.now) result }
 {
     let mut buffer = [0; 128];
     let digits = digits_of(digest, &mut buffer);
@@ -72,7 +74,7 @@ fn digits_of<'a>(digest: &Digest, buffer: &'a mut [u8; 128]) -> &'a [u8]
 /// only once.
 #[doc(hidden)]
 pub fn mark_and_name(name: &[u8]) -> (&'static [u8], Part<'_>)
-    ensures mark { result.0.now ≡ mark (escape_differs name.now) }
+    ensures mark { result.0.now ≡ backslash_if (escape_differs name.now) }
     ensures name { part_text result.1 ≡ escape name.now }
 {
     if needs_escape(name) {

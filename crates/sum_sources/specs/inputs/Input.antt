@@ -1,27 +1,15 @@
--- Inputs: their contents, what their reads gave, and which contents these reads fit.
-use Rattle.std.specs.Prelude.{ℕ, zero, suc, ◌≡◌, ◌-◌, ◌<◌, ◌≤◌, ◌^◌, [], ◌++◌, take, drop, length, Option, None, ⊤, Result, Ok, Err, IfSome, MatchResult, if◌then◌else◌, nat_lt}
+-- What the reads of inputs gave, and which contents that fits.
+use Rattle.std.specs.Prelude.{ℕ, zero, suc, ◌≡◌, [], ◌++◌, take, drop, length, Option, None, ⊤, Result, Ok, Err, IfSome}
 use Rattle.std.specs.Result.{result_unwrap_or}
 use Rattle.digest_kinds.specs.Bytes.{ByteString}
-use Rattle.sum_sources.specs.Fault.{Fault, Other, Ending, Whole, Broken}
-pub use Rattle.sum_sources.specs.declared.inputs.input.Phase.{Phase, TheVariants.Unfinished, TheVariants.Ended, TheVariants.Past}
-
--- bytes, and how they end
-pub record Content : Type 0 where
-  pub bytes : ByteString
-  pub ending : Ending
+use Rattle.sum_sources.specs.Fault.{Fault, Whole, Broken}
+pub use Rattle.sum_sources.specs.Content.{Content, limit, clip}
+pub use Rattle.sum_sources.specs.declared.inputs.input.Phase.{Phase, TheVariants.Unfinished, TheVariants.Ended}
+pub use Rattle.sum_sources.specs.declared.inputs.input.Phase.{TheVariants.Past}
 
 -- no bytes, and a whole ending
 abbrev pub empty_content : Content
 empty_content = record { bytes = []; ending = Whole }
-
--- the limit, 2^61: an input of this many bytes is too long
-unfoldable pub limit : ℕ
-limit = 2 ^ 61
-
--- a content, if it has fewer bytes than the limit; otherwise its bytes before the limit, and then a fault
-abbrev pub clip : Content → Content
-clip content = if nat_lt (length content.bytes) limit then content
-    else record { bytes = take (limit - 1) content.bytes; ending = Broken Other }
 
 -- the phase after a read into a buffer of this size: Past if the buffer is empty, or if the input had ended before
 abbrev pub phase_after : Phase → ℕ → Result ℕ Fault → Phase
@@ -61,13 +49,13 @@ Fits reads content = IsReadTo reads.phase reads.bytes content
 -- the state of an input: which file it is, and what its reads gave
 pub record InputState : Type 0 where
   pub name : ByteString  -- by which it was opened
-  pub opening : ℕ  -- how many openings of that name came before at its source
+  pub nth : ℕ  -- how many openings of that name came before at its source
   pub told : Option Content  -- its content, if that is in memory
   pub reads : Reads
 
 -- the state of an unread input that no source opened, and that isn't in memory
 abbrev pub no_reads : InputState
-no_reads = record { opening = 0; name = []; told = None; reads = empty_reads }
+no_reads = record { nth = 0; name = []; told = None; reads = empty_reads }
 
 -- the state after one more read, which left this buffer: it gave as many of the buffer's first bytes as it returned
 abbrev pub state_after_read : InputState → ByteString → Result ℕ Fault → InputState
@@ -82,10 +70,3 @@ HasContent input = (content : Content) × IfSome input.told (λ told. content �
 -- the same input, of which more was read
 abbrev pub IsSameInput : InputState → InputState → Type 0
 IsSameInput before after = after ≡ record before { reads = after.reads }
-
--- a read gives a content's bytes from place `first` up to place `later`; or, if none is left, its ending
-pub record GivesFrom (content : Content) (first later size : ℕ) (result : Result ℕ Fault) (buffer : ByteString)
-    : Type 0 where
-  pub bytes : take later content.bytes ≡ take first content.bytes ++ take (result_unwrap_or result 0) buffer
-  pub ending : MatchResult result (λ n. n ≡ 0 → 0 < size → (length content.bytes ≤ first) × (content.ending ≡ Whole))
-      (λ fault. (length content.bytes ≤ first) × (content.ending ≡ Broken fault))

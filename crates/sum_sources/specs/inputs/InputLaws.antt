@@ -1,9 +1,16 @@
 -- The law of inputs, with its proofs: what was read of an input fits a content, the one in memory if there is one.
-use Rattle.std.proofs.{Common.rules, Common.ℕ, Common.[], Common.None, Common.refl, Common.drop, lemmas.List.take-append-drop}
+use Rattle.std.proofs.{Common.rules, Common.ℕ, Common.[], Common.None, Common.refl, Common.drop}
+use Rattle.std.proofs.{lemmas.List.take-append-drop}
 use Rattle.digest_kinds.specs.Bytes.{ByteString}
-use Rattle.sum_sources.specs.declared.{inputs.stdin.Closable.Closable, sources.opened.Place.Place, inputs.stdin.Closable.TheVariants.Open, inputs.stdin.Closable.TheVariants.Closed, sources.opened.Place.TheVariants.Stdin}
-use Rattle.sum_sources.specs.{declared.sources.opened.Place.TheVariants.File, inputs.Told.ToldValue, inputs.Told.told_state, inputs.Stdin.closable_state, Fault.Whole, sources.Place.place_state}
-use Rattle.sum_sources.specs.inputs.Input.{Content, InputState, HasContent, Fits, IsReadTo, told_reads, empty_content, Phase, Unfinished, Ended, Past}
+use Rattle.sum_sources.specs.declared.{inputs.stdin.Closable.Closable, inputs.stdin.Closable.TheVariants.Open}
+use Rattle.sum_sources.specs.declared.{inputs.stdin.Closable.TheVariants.Closed}
+use Rattle.sum_sources.specs.declared.sources.stdin_or_file.StdinOrFile.{StdinOrFile}
+use Rattle.sum_sources.specs.declared.sources.stdin_or_file.StdinOrFile.TheVariants.{Stdin}
+use Rattle.sum_sources.specs.{inputs.Told.ToldValue, inputs.Told.told_state, inputs.Stdin.closable_state, Fault.Whole}
+use Rattle.sum_sources.specs.{sources.StdinOrFile.stdin_or_file_state}
+use Rattle.sum_sources.specs.declared.sources.stdin_or_file.StdinOrFile.TheVariants.{File}
+use Rattle.sum_sources.specs.inputs.Input.{Content, InputState, HasContent, Fits, IsReadTo, told_reads, empty_content}
+use Rattle.sum_sources.specs.inputs.Input.{Phase, Unfinished, Ended, Past}
 
 -- what reads of a content gave fits it
 pub told_reads_fit : (content : Content) (n : ℕ) (phase : Phase) → Fits (told_reads content n phase) content
@@ -23,8 +30,8 @@ closable_has_content state has (Closed e phase) = (_, refl, told_reads_fit (reco
 
 -- the law of what was opened beside standard input
 pub opened_has_content : {I F : Type 0} (stdin : I → InputState) (file : F → InputState)
-    → ((i : I) → HasContent (stdin i)) → ((f : F) → HasContent (file f)) → (p : Place I F)
-    → HasContent (place_state stdin file p)
+    → ((i : I) → HasContent (stdin i)) → ((f : F) → HasContent (file f)) → (p : StdinOrFile I F)
+    → HasContent (stdin_or_file_state stdin file p)
 opened_has_content stdin file has has_file (Stdin given log) = closable_has_content stdin has given
 opened_has_content stdin file has has_file (File f) = has_file f
 

@@ -1,8 +1,10 @@
 -- Relates a read up to the limit to what was read before it and after it.
 use Rattle.std.specs.Prelude.{ℕ, zero, suc, ◌≡◌, ◌≢◌, ◌+◌, ◌<◌, ◌≤◌, ◌++◌, length, Result, Ok, Err, IfOk}
 use Rattle.digest_kinds.specs.Bytes.{ByteString, LIMIT}
-use Rattle.sum_sources.specs.{Fault.Fault, Fault.Ending, Fault.Whole, Fault.Broken, declared.inputs.input.TheConstants.PIECE}
-use Rattle.sum_sources.specs.inputs.Input.{Unfinished, Ended, Past, Content, Reads, InputState, Fits, IsSameInput, clip, reads_past}
+use Rattle.sum_sources.specs.{Fault.Fault, Fault.Ending, Fault.Whole, Fault.Broken}
+use Rattle.sum_sources.specs.{declared.inputs.input.TheConstants.PIECE}
+use Rattle.sum_sources.specs.inputs.Input.{Unfinished, Ended, Past, Content, Reads, InputState, Fits, IsSameInput, clip}
+use Rattle.sum_sources.specs.inputs.Input.{reads_past}
 
 -- an input that had given this many bytes was found to have this ending, as far as the limit allows
 pub record FindsEnding (taken : ℕ) (old new : Reads) (ending : Ending) : Type 0 where

@@ -1,13 +1,14 @@
 -- Sources of files: which names one opened, and what it answered.
-use Rattle.std.specs.Prelude.{ℕ, zero, suc, ◌≡◌, ◌+◌, ◌&&◌, List, [], ◌∷◌, ◌++◌, map, filter_map, count_by, slice_get, bytes_eq, nat_le, Option, None, Some, Result, Ok, Err, IfSome, MatchResult, unwrap_or, if◌then◌else◌}
+use Rattle.std.specs.Prelude.{ℕ, zero, suc, ◌≡◌, ◌+◌, ◌&&◌, List, [], ◌∷◌, ◌++◌, map, filter_map, slice_get, bytes_eq}
+use Rattle.std.specs.Prelude.{nat_le, Option, None, Some, Result, Ok, Err, IfSome, MatchResult, unwrap_or}
+use Rattle.std.specs.Prelude.{if◌then◌else◌}
 use Rattle.std.specs.{Option.option_and_then, Option.option_flatten, Result.result_ok}
 use Rattle.digest_kinds.specs.Bytes.{ByteString}
-use Rattle.sum_sources.specs.{Fault.Fault, Fault.NotFound, declared.sources.source.OpenFault.OpenFault, inputs.Input.Content, inputs.Input.InputState, inputs.Input.Reads, inputs.Input.Fits, inputs.Input.empty_reads}
-use Rattle.sum_sources.specs.declared.sources.source.OpenFault.TheVariants as faults
-
--- what opening a name gives: a content, or the fault of opening
-abbrev pub AnswerValue : Type 0
-AnswerValue = Result Content Fault
+use Rattle.sum_sources.specs.{Fault.Fault, Fault.NotFound, declared.sources.source.OpenFault.OpenFault}
+use Rattle.sum_sources.specs.{inputs.Input.Content, inputs.Input.InputState, inputs.Input.Reads, inputs.Input.Fits}
+use Rattle.sum_sources.specs.{inputs.Input.empty_reads}
+pub use Rattle.sum_sources.specs.{Content.AnswerValue, Names.times}
+use Rattle.sum_sources.specs.declared.sources.source.OpenFault.TheVariants as open_faults
 
 -- answers to each opening, by its name and by how many openings of that name came before
 abbrev pub Answers : Type 0
@@ -22,10 +23,6 @@ pub record Opening : Type 0 where
 abbrev pub names_of : List Opening → List ByteString
 names_of openings = map (λ o. o.name) openings
 
--- how often a name is among others
-abbrev pub times : ByteString → List ByteString → ℕ
-times name names = count_by (λ other. bytes_eq other name) names
-
 -- what the openings of a name gave, in their order
 abbrev pub results_of : List Opening → ByteString → List (Option (Result Reads Fault))
 results_of openings name = filter_map (λ o. if bytes_eq o.name name then Some o.gave else None) openings
@@ -35,17 +32,17 @@ abbrev pub result_at : List Opening → ByteString → ℕ → Option (Result Re
 result_at openings name k = option_flatten (slice_get (results_of openings name) k)
 
 -- in memory: a name, and the answer, if one is told, to each opening of it that has at least this many before it
-pub record Pair : Type 0 where
+pub record ToldAnswer : Type 0 where
   pub name : ByteString
   pub from : ℕ
   pub answer : Option AnswerValue
 
 -- the answers that a source tells, as any function of what it has in memory
 abbrev pub ToldAnswers : Type 0
-ToldAnswers = List Pair → ByteString → ℕ → Option AnswerValue
+ToldAnswers = List ToldAnswer → ByteString → ℕ → Option AnswerValue
 
 -- all answers are told, and they are these
-abbrev pub TellsAll : ToldAnswers → List Pair → Answers → Type 0
+abbrev pub TellsAll : ToldAnswers → List ToldAnswer → Answers → Type 0
 TellsAll tells told answer = (name : ByteString) (k : ℕ) → tells told name k ≡ Some (answer name k)
 
 -- no answer is told
@@ -54,7 +51,7 @@ no_answer told name k = None
 
 -- what a list of pairs answers: the first pair with the name whose number is at most k decides; if there is none, the
 -- answer is NotFound
-abbrev pub first_answer : List Pair → Answers
+abbrev pub first_answer : List ToldAnswer → Answers
 first_answer [] name k = Err NotFound
 first_answer (x ∷ xs) name k = if bytes_eq x.name name && nat_le x.from k
     then unwrap_or x.answer (Err NotFound) else first_answer xs name k
@@ -65,7 +62,7 @@ answer_of_first pairs name k = Some (first_answer pairs name k)
 
 -- the state of a source
 pub record SourceState : Type 0 where
-  pub told : List Pair  -- what it has in memory, which no call changes
+  pub told : List ToldAnswer  -- what it has in memory, which no call changes
   pub openings : List Opening  -- in their order
   pub refusals : ℕ  -- how many openings were refused memory
 
@@ -89,7 +86,7 @@ content_at tells source name k = option_and_then result_ok (tells source.told na
 -- the file that opening a name gives: nothing was read of it yet
 abbrev pub opened_file : ToldAnswers → SourceState → ByteString → InputState
 opened_file tells source name = let k = times name (names_of source.openings) in
-    record { opening = k; name = name; told = content_at tells source name k; reads = empty_reads }
+    record { nth = k; name = name; told = content_at tells source name k; reads = empty_reads }
 
 -- the source with one more opening
 abbrev pub state_with_opening : SourceState → ByteString → Option (Result Reads Fault) → SourceState
@@ -99,13 +96,13 @@ state_with_opening state name gave = let opening : Opening = record { name = nam
 -- the source after it opened a name; if memory was refused, that is no opening
 abbrev pub state_after_opening : {F : Type 0} → SourceState → ByteString → Result F OpenFault → SourceState
 state_after_opening source name (Ok file) = state_with_opening source name None
-state_after_opening source name (Err (faults.Fault fault)) = state_with_opening source name (Some (Err fault))
-state_after_opening source name (Err faults.Memory) = record source { refusals = source.refusals + 1 }
+state_after_opening source name (Err (open_faults.Fault fault)) = state_with_opening source name (Some (Err fault))
+state_after_opening source name (Err open_faults.Memory) = record source { refusals = source.refusals + 1 }
 
 -- this source opened this file, and hasn't closed it
 pub record IsOpen (tells : ToldAnswers) (source : SourceState) (file : InputState) : Type 0 where
-  pub opening : slice_get (results_of source.openings file.name) file.opening ≡ Some None
-  pub told : file.told ≡ content_at tells source file.name file.opening
+  pub is_open : slice_get (results_of source.openings file.name) file.nth ≡ Some None
+  pub told : file.told ≡ content_at tells source file.name file.nth
 
 -- the openings after a file was closed: of those of its name, the one that has k others before it gave these reads
 abbrev pub openings_after_closing : List Opening → ByteString → ℕ → Reads → List Opening
@@ -118,4 +115,4 @@ openings_after_closing (x ∷ xs) name (suc k) reads =
 -- the source after this file was closed
 abbrev pub state_after_closing : SourceState → InputState → SourceState
 state_after_closing state file = let openings = state.openings in
-    record state { openings = openings_after_closing openings file.name file.opening file.reads }
+    record state { openings = openings_after_closing openings file.name file.nth file.reads }

@@ -1,11 +1,16 @@
 -- The law of sources, with its proofs: what an opening gave fits the answer, if one is told.
-use Rattle.std.proofs.Common.{◌≡◌, ◌∙◌, ℕ, Bool, true, false, List, [], ◌∷◌, Option, None, Some, Result, Ok, Err, refl, IfSome, ap, sym, codes, bytes_eq, arith}
-use Rattle.std.{proofs.Math.Logic.∥∥₁_elim, proofs.Props.props, proofs.lemmas.List.append_cancel_left, proofs.lemmas.Slice.Eq.bytes_eq-Decides, specs.Coded.×_prop}
+use Rattle.std.proofs.Common.{◌≡◌, ◌∙◌, ℕ, Bool, true, false, List, [], ◌∷◌, Option, None, Some, Result, Ok, Err, refl}
+use Rattle.std.proofs.Common.{IfSome, ap, sym, codes, bytes_eq, arith}
+use Rattle.std.{proofs.Math.Logic.∥∥₁_elim, proofs.Props.props, proofs.lemmas.List.append_cancel_left}
+use Rattle.std.{proofs.lemmas.Slice.Eq.bytes_eq-Decides, specs.Coded.×_prop}
 use std.HLevel.{Π_prop, Σ_prop_path}
 use Rattle.digest_kinds.specs.Bytes.{ByteString}
 use Rattle.sum_sources.specs.inputs.Input.{Content, Phase, Unfinished, Ended, Past, Reads, InputState, IsReadTo, Fits}
-use Rattle.sum_sources.specs.sources.Source.{AnswerValue, ToldAnswers, SourceState, Opening, FitsAnswer, GivesTold, results_of, result_at, no_answer}
-use Rattle.sum_sources.specs.{sources.WithStdin.is_dash, sources.WithStdin.other_openings, sources.WithStdin.answer_of_both, sources.WithStdin.with_stdin_state, sources.WithStdin.IsSoundWithStdin, Fault.Fault, inputs.Stdin.StdinPlace}
+use Rattle.sum_sources.specs.sources.Source.{AnswerValue, ToldAnswers, SourceState, Opening, FitsAnswer, GivesTold}
+use Rattle.sum_sources.specs.sources.Source.{results_of, result_at, no_answer}
+use Rattle.sum_sources.specs.{sources.WithStdin.is_dash, sources.WithStdin.other_openings}
+use Rattle.sum_sources.specs.{sources.WithStdin.answer_of_both, sources.WithStdin.with_stdin_state}
+use Rattle.sum_sources.specs.{sources.WithStdin.IsSoundWithStdin, Fault.Fault, inputs.Stdin.StdinValue}
 
 -- a source that isn't in memory has it
 pub untold_gives : (s : SourceState) → GivesTold no_answer (record s { told = [] })
@@ -55,7 +60,7 @@ results-both os fs same name apart =
     ∙ other_openings-results fs name apart
 
 -- the law of both
-pub with_stdin_gives : {I : Type 0} (state_of : I → InputState) (tells : ToldAnswers) (first stdin : StdinPlace I)
+pub with_stdin_gives : {I : Type 0} (state_of : I → InputState) (tells : ToldAnswers) (first stdin : StdinValue I)
     (log source : SourceState)
     → ∥ IsSoundWithStdin state_of first stdin log.openings source.openings ∥₁ → GivesTold tells source
     → GivesTold (answer_of_both tells) (with_stdin_state state_of first log source)

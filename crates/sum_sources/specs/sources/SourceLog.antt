@@ -1,6 +1,7 @@
 -- The log of a source, which only proofs see.
 use Rattle.std.specs.Prelude.{◌+◌, None, Some, Err}
-use Rattle.sum_sources.specs.declared.sources.source_log.Note.{Note, TheVariants.Opened, TheVariants.Failed, TheVariants.Closed, TheVariants.Refused}
+use Rattle.sum_sources.specs.declared.sources.source_log.Note.{Note, TheVariants.Opened, TheVariants.Failed}
+use Rattle.sum_sources.specs.declared.sources.source_log.Note.{TheVariants.Closed, TheVariants.Refused}
 use Rattle.sum_sources.specs.sources.Source.{SourceState, state_with_opening, state_after_closing}
 
 -- the state of a source after one more note

@@ -1,13 +1,15 @@
 -- Standard input and a source of files, as one source.
-use Rattle.std.specs.Prelude.{ℕ, zero, suc, Bool, true, false, ◌≡◌, List, [], ◌∷◌, codes, bytes_eq, filter, not, Option, None, Some, Result, Ok, IfSome, if◌then◌else◌, option_map}
-use Rattle.digest_kinds.specs.Bytes.{ByteString}
-use Rattle.sum_sources.specs.{Fault.Fault, declared.sources.opened.Place.Place, declared.sources.opened.Place.TheVariants.Stdin, declared.sources.opened.Place.TheVariants.File}
-use Rattle.sum_sources.specs.inputs.{Input.Content, Input.InputState, Input.Reads, Input.empty_content, Stdin.StdinPlace, Stdin.closable_state, Stdin.given_input, Stdin.is_untaken, Stdin.stdin_after_taking, Stdin.stdin_after_put_back}
-use Rattle.sum_sources.specs.sources.Source.{result_at, Answers, Pair, ToldAnswers, SourceState, Opening, FitsAnswer, results_of, state_after_closing}
-
--- whether a name is that of standard input
-abbrev pub is_dash : ByteString → Bool
-is_dash name = bytes_eq (codes "-") name
+use Rattle.std.specs.Prelude.{ℕ, zero, suc, true, false, ◌≡◌, List, [], ◌∷◌, codes, filter, not, Option, None, Some}
+use Rattle.std.specs.Prelude.{Result, Ok, IfSome, if◌then◌else◌, option_map}
+use Rattle.sum_sources.specs.{Fault.Fault}
+use Rattle.sum_sources.specs.declared.sources.stdin_or_file.StdinOrFile.{StdinOrFile}
+use Rattle.sum_sources.specs.declared.sources.stdin_or_file.StdinOrFile.TheVariants.{Stdin, File}
+use Rattle.sum_sources.specs.inputs.{Input.Content, Input.InputState, Input.Reads, Input.empty_content}
+use Rattle.sum_sources.specs.inputs.{Stdin.StdinValue, Stdin.closable_state, Stdin.given_input, Stdin.is_untaken}
+use Rattle.sum_sources.specs.inputs.{Stdin.stdin_after_taking, Stdin.stdin_after_put_back}
+use Rattle.sum_sources.specs.sources.Source.{result_at, Answers, ToldAnswer, ToldAnswers, SourceState, Opening}
+use Rattle.sum_sources.specs.sources.Source.{FitsAnswer, results_of, state_after_closing}
+pub use Rattle.sum_sources.specs.Names.{is_dash}
 
 -- what the first opening of a name gives, or what each later one does
 abbrev pub first_or_later : {A : Type 0} → A → A → ℕ → A
@@ -15,7 +17,7 @@ first_or_later first later zero = first
 first_or_later first later (suc k) = later
 
 -- what both have in memory
-abbrev pub pairs_with_stdin : Option Content → List Pair → List Pair
+abbrev pub pairs_with_stdin : Option Content → List ToldAnswer → List ToldAnswer
 pairs_with_stdin stdin told = record { name = codes "-"; from = 0; answer = option_map Ok stdin } ∷ told
 
 -- the answers of both: the first opening of `-` gives standard input, and each later one an empty content
@@ -29,7 +31,7 @@ abbrev pub answers_with : Content → Answers → Answers
 answers_with told answer name k = if is_dash name then first_or_later (Ok told) (Ok empty_content) k else answer name k
 
 -- the state of both: standard input at first, what was opened so far, and the source
-abbrev pub with_stdin_state : {I : Type 0} → (I → InputState) → StdinPlace I → SourceState → SourceState → SourceState
+abbrev pub with_stdin_state : {I : Type 0} → (I → InputState) → StdinValue I → SourceState → SourceState → SourceState
 with_stdin_state state_of first log source = let stdin = (closable_state state_of (given_input first)).told in
     record source { told = pairs_with_stdin stdin source.told; openings = log.openings }
 
@@ -42,9 +44,10 @@ abbrev pub state_without_dash : SourceState → SourceState
 state_without_dash source = record source { openings = other_openings source.openings }
 
 -- standard input is as it was at first if `-` wasn't opened, and is taken otherwise
-abbrev pub IsPlaceOf : {I : Type 0} → StdinPlace I → StdinPlace I → List (Option (Result Reads Fault)) → Type 0
-IsPlaceOf first stdin [] = stdin ≡ first
-IsPlaceOf first stdin (x ∷ xs) = is_untaken stdin ≡ false
+abbrev pub IsUntakenUnlessOpened : {I : Type 0} → StdinValue I → StdinValue I → List (Option (Result Reads Fault))
+    → Type 0
+IsUntakenUnlessOpened first stdin [] = stdin ≡ first
+IsUntakenUnlessOpened first stdin (x ∷ xs) = is_untaken stdin ≡ false
 
 -- what an opening of `-` gave fits its answer, if one is told
 abbrev pub GivesStdin : InputState → ℕ → Option (Result Reads Fault) → Type 0
@@ -52,21 +55,21 @@ GivesStdin untaken k gave = IfSome (first_or_later (option_map Ok untaken.told) 
     (λ told. IfSome gave (FitsAnswer told))
 
 -- the invariant of standard input at first and now, the openings of both, and those of the source
-pub record IsSoundWithStdin {I : Type 0} (state_of : I → InputState) (first stdin : StdinPlace I)
+pub record IsSoundWithStdin {I : Type 0} (state_of : I → InputState) (first stdin : StdinValue I)
     (openings of_source : List Opening) : Type 0 where
   pub untaken : is_untaken first ≡ true
-  pub place : IsPlaceOf first stdin (results_of openings (codes "-"))
+  pub place : IsUntakenUnlessOpened first stdin (results_of openings (codes "-"))
   pub given : (k : ℕ) → GivesStdin (closable_state state_of (given_input first)) k (result_at openings (codes "-") k)
   pub files : other_openings openings ≡ other_openings of_source  -- the other names were opened in the source
 
 -- what was opened is what taking standard input gives
-abbrev pub TakesStdin : {I F : Type 0} → StdinPlace I → StdinPlace I → Place I F → Type 0
+abbrev pub TakesStdin : {I F : Type 0} → StdinValue I → StdinValue I → StdinOrFile I F → Type 0
 TakesStdin before after (Stdin given log) = (given ≡ given_input before) × (after ≡ stdin_after_taking before)
 TakesStdin before after (File file) = ⊥
 
 -- after closing `-`, standard input is put back; after closing another file, the source has closed it. The other part
 -- is unchanged
-abbrev pub parts_after_closing : {I F : Type 0} → (F → InputState) → Place I F → StdinPlace I → SourceState
-    → StdinPlace I × SourceState
+abbrev pub parts_after_closing : {I F : Type 0} → (F → InputState) → StdinOrFile I F → StdinValue I → SourceState
+    → StdinValue I × SourceState
 parts_after_closing file_state (Stdin given log) stdin source = (stdin_after_put_back stdin given, source)
 parts_after_closing file_state (File file) stdin source = (stdin, state_after_closing source (file_state file))

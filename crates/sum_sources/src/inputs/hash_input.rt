@@ -13,12 +13,12 @@ pub fn hash_input<I: Input, H: Hasher + Drop>(input: &mut I, hasher: H) -> Resul
     ensures { HashesInput (H.kind_of hasher) (I.state input.old) (I.state input.new) result }
 {
     let mut buffer: [u8; PIECE] = [0; PIECE];
-    hash_input_over(input, hasher, &mut buffer)
+    hash_input_with_buffer(input, hasher, &mut buffer)
 }
 
 /// Does what `hash_input` does, but reads into the caller's buffer, so that one serves many inputs. The buffer's
 /// previous content doesn't matter; its content afterwards is unspecified.
-pub fn hash_input_over<I: Input, H: Hasher + Drop>(
+pub fn hash_input_with_buffer<I: Input, H: Hasher + Drop>(
     input: &mut I,
     mut hasher: H,
     buffer: &mut [u8; PIECE],

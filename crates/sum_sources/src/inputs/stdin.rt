@@ -1,13 +1,13 @@
 //! Standard input, which a run gets once.
 ghost use Rattle.std.specs.Prelude.{◌≡◌, IsTrue, None};
-ghost use Rattle.sum_sources.specs.inputs.Stdin.{GivesUnread, StdinPlace, given_input, stdin_after_taking};
+ghost use Rattle.sum_sources.specs.inputs.Stdin.{GivesUnread, StdinValue, given_input, stdin_after_taking};
 ghost use Rattle.sum_sources.specs.inputs.Stdin.{stdin_after_put_back};
 
 use crate::fault::EBADF;
 use crate::{Ending, Fault, Input, Phase};
 use std::marker::Model;
 
-/// What standard input reads from.
+/// What standard input reads from: an input, or, if it is closed, no bytes with this ending, read as far as the phase.
 #[derive(Debug, Drop)]
 pub(crate) enum Closable<I> {
     /// The input, which is open.
@@ -16,7 +16,7 @@ pub(crate) enum Closable<I> {
     Closed(Ending, Phase),
 }
 
-/// Standard input. Its input is taken once, and then put back. Until it is taken, nothing has been read of it.
+/// Standard input: its input is taken once, and then put back, and until it is taken nothing has been read of it.
 #[derive(Debug, Drop)]
 pub struct Stdin<I: Input> {
     taken: bool,
@@ -25,15 +25,16 @@ pub struct Stdin<I: Input> {
 }
 
 impl<I: Input> Model for Stdin<I> {
-    ghost Value = { StdinPlace I };
+    ghost Value = { StdinValue I };
 
     ghost view = { λ s. (s.taken, s.input) };
 
     ghost invariant = { λ s. GivesUnread I.state (s.taken, s.input) × (s.input ≡ None → IsTrue s.taken) };
 }
 
-/// What [`Stdin::take`] gives: the input of standard input the first time, and an empty one afterwards. It can't be
-/// dropped, so the code that took it must put it back.
+/// What taking standard input gives: its input the first time, and an empty one afterwards.
+///
+/// [`Stdin::take`] gives it. It can't be dropped, so the code that took it must put it back.
 #[derive(Debug)]
 pub struct Given<I> {
     input: Closable<I>,

@@ -1,6 +1,6 @@
 //! An input in memory.
 ghost use Rattle.std.specs.Prelude.{◌≡◌, ◌≤◌, [], length, max, IfOk};
-ghost use Rattle.sum_sources.specs.{Fault.Ending, inputs.Input.GivesFrom, inputs.Input.told_reads, inputs.Input.Ended};
+ghost use Rattle.sum_sources.specs.{Fault.Ending, inputs.Input.told_reads, inputs.Input.Ended, private.Told.GivesFrom};
 
 use crate::inputs::input_log::{InputCalls, InputLog, ReadNote};
 use crate::{Ending, Fault, Input, Phase};
@@ -32,7 +32,7 @@ impl<'a> Told<'a> {
           given = 0;
           piece = max piece 1;
           phase = Phase.Unfinished;
-          opening = 0;
+          nth = 0;
           name = [];
         } }
     {
@@ -47,7 +47,7 @@ impl<'a> Told<'a> {
           given = 0;
           piece = max piece 1;
           phase = Phase.Unfinished;
-          opening = log.opening;
+          nth = log.nth;
           name = log.name;
         } }
     {
@@ -114,7 +114,7 @@ impl<'a> Input for Told<'a> {
     {
         let result = give(self.bytes, self.ending, self.piece, &mut self.given, buf);
         self.phase = self.phase.after(buf.len(), &result);
-        self.log = self.log.and(&ReadNote(buf, &result));
+        self.log = self.log.with_note(&ReadNote(buf, &result));
         result
     }
 

@@ -2,7 +2,7 @@
 ghost use Rattle.std.specs.Prelude.{◌≡◌, [], length, IfOk};
 ghost use Rattle.sum_sources.specs.sources.HashFile.{HashesFile};
 
-use crate::{Fault, OpenFault, PIECE, Source, hash_input_over};
+use crate::{Fault, OpenFault, PIECE, Source, hash_input_with_buffer};
 use digest_kinds::{Digest, Hasher};
 use thiserror::Error;
 
@@ -48,12 +48,12 @@ pub fn hash_file<S: Source, H: Hasher + Drop>(
         result }
 {
     let mut buffer: [u8; PIECE] = [0; PIECE];
-    hash_file_over(source, name, hasher, &mut buffer)
+    hash_file_with_buffer(source, name, hasher, &mut buffer)
 }
 
 /// Does what `hash_file` does, but reads into the caller's buffer, so that one serves many files. The buffer's previous
 /// content doesn't matter; its content afterwards is unspecified.
-pub fn hash_file_over<S: Source, H: Hasher + Drop>(
+pub fn hash_file_with_buffer<S: Source, H: Hasher + Drop>(
     source: &mut S,
     name: &[u8],
     hasher: H,
@@ -65,7 +65,7 @@ pub fn hash_file_over<S: Source, H: Hasher + Drop>(
     ensures len { IfOk result (λ d. length d ≡ (H.kind_of hasher).len) }
 {
     let mut file = source.open_file(name)?;
-    let found = hash_input_over(&mut file, hasher, buffer);
+    let found = hash_input_with_buffer(&mut file, hasher, buffer);
     source.close_file(file);
     Ok(found?)
 }

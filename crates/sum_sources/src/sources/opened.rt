@@ -1,23 +1,18 @@
 //! What opening a name gives.
 ghost use Rattle.std.specs.Prelude.{◌≡◌};
-ghost use Rattle.sum_sources.specs.sources.{Place.is_stdin, Place.place_state, WithStdin.is_dash};
+ghost use Rattle.sum_sources.specs.sources.{StdinOrFile.is_stdin, StdinOrFile.stdin_or_file_state, WithStdin.is_dash};
 
 use crate::inputs::input_log::InputLog;
+use crate::sources::stdin_or_file::StdinOrFile;
 use crate::{Fault, Given, Input};
 
-#[derive(Debug)]
-pub(crate) enum Place<I, F> {
-    /// Standard input. The log has its name and its opening.
-    Stdin(Given<I>, InputLog),
-    File(F),
-}
-
-/// What [`WithStdin`](crate::WithStdin) opened: standard input, or a file. It can't be dropped, so the code that opened
-/// it must close it.
+/// What a [`WithStdin`](crate::WithStdin) opened, which by `named` is standard input exactly if its name is `-`.
+///
+/// It can't be dropped, so the code that opened it must close it.
 #[derive(Debug)]
 pub struct Opened<I: Input, F: Input> {
-    pub(crate) place: Place<I, F>,
-    ghost named: { is_dash (place_state I.state F.state place).name ≡ is_stdin place },
+    pub(crate) input: StdinOrFile<I, F>,
+    ghost named: { is_dash (stdin_or_file_state I.state F.state input).name ≡ is_stdin input },
 }
 
 impl<I: Input, F: Input> Opened<I, F> {
@@ -26,20 +21,20 @@ impl<I: Input, F: Input> Opened<I, F> {
     // Standard input, by the opening that the log has.
     pub(crate) fn from_stdin(given: Given<I>, log: InputLog) -> Self
         requires { IsTrue (is_dash log.name) }
-        ensures { result.place ≡ Place.Stdin given log }
+        ensures { result.input ≡ StdinOrFile.Stdin given log }
     {
         Opened {
-            place: Place::Stdin(given, log),
+            input: StdinOrFile::Stdin(given, log),
         }
     }
 
     // A file.
     pub(crate) fn from_file(file: F) -> Self
         requires { is_dash (F.state file).name ≡ false }
-        ensures { place_state I.state F.state result.place ≡ F.state file }
+        ensures { stdin_or_file_state I.state F.state result.input ≡ F.state file }
     {
         Opened {
-            place: Place::File(file),
+            input: StdinOrFile::File(file),
         }
     }
 }
@@ -50,12 +45,12 @@ impl<I: Input, F: Input> Input for Opened<I, F> {
     ghost state = { opened_state };
 
     fn read(&mut self, buf: &mut [u8]) -> Result<usize, Fault> {
-        match &mut self.place {
-            Place::Stdin(given, _) => given.read(buf),
-            Place::File(file) => file.read(buf),
+        match &mut self.input {
+            StdinOrFile::Stdin(given, _) => given.read(buf),
+            StdinOrFile::File(file) => file.read(buf),
         }
     }
 
     ghost has_content = { λ o. opened_has_content I.state F.state I.has_content F.has_content
-        o.place };
+        o.input };
 }

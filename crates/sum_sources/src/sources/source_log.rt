@@ -72,5 +72,5 @@ impl<'a> Notes<(&'a SourceLog, &'a [u8])> for InputCalls {
 pub fn next_file(log: &SourceLog, name: &[u8]) -> InputLog
     ensures { result ≡ opened_file no_answer log.now name.now }
 {
-    Log::of(&InputCalls).and(&(log, name))
+    Log::of(&InputCalls).with_note(&(log, name))
 }

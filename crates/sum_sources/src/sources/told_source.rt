@@ -2,11 +2,12 @@
 ghost use Rattle.std.specs.Option.{option_map};
 ghost use Rattle.std.specs.Prelude.{◌≡◌, ◌≤◌, ◌++◌, ◌∷◌, [], OnOk, OnErr, length, map, slice_get};
 ghost use Rattle.std.specs.Vec.{VecUnchanged};
-ghost use Rattle.sum_sources.specs.sources.Source.{GivesTold, first_answer, names_of, answer_of_first, times};
+ghost use Rattle.sum_sources.specs.sources.Source.{GivesTold, names_of, answer_of_first, times};
 ghost use Rattle.sum_sources.specs.sources.SourceLaws.{GivesTold-prop};
-ghost use Rattle.sum_sources.specs.sources.StoredPair.{pair_view, answer_view, state_with_pairs};
+ghost use Rattle.sum_sources.specs.sources.StoredAnswer.{answer_view, state_with_pairs};
 
 use crate::sources::source_log::{Note, SourceCalls, SourceLog, next_file};
+use crate::sources::stored_answer::{StoredAnswer, answer_to};
 use crate::{Ending, Fault, Input, NoRoom, OpenFault, Source, Told};
 use std::alloc::Allocator;
 
@@ -19,18 +20,10 @@ pub enum Answer<'a> {
     Content(&'a [u8], Ending),
 }
 
-#[derive(Debug, Drop)]
-struct StoredPair<'a, A: Allocator> {
-    name: Vec<u8, A>,
-    answer: Answer<'a>,
-    // How often its name was opened before it was added.
-    from: usize,
-}
-
 /// A source in memory: a list of names, each with its answer.
 #[derive(Debug, Drop)]
 pub struct ToldSource<'a, A: Allocator + Copy> {
-    pairs: Vec<StoredPair<'a, A>, A>,
+    pairs: Vec<StoredAnswer<'a, A>, A>,
     asked: Vec<Vec<u8, A>, A>,
     alloc: A,
     piece: usize,
@@ -48,22 +41,6 @@ fn times<A: Allocator>(names: &[Vec<u8, A>], name: &[u8]) -> usize
         .iter()
         .filter(|other| other.as_slice() == name)
         .count()
-}
-
-// The answer of the first pair with the name that was added by the time the name had been opened this many times.
-fn answer_to<'a, A: Allocator>(
-    pairs: &[StoredPair<'a, A>],
-    name: &[u8],
-    before: usize,
-) -> Answer<'a>
-    ensures { answer_view result ≡ first_answer (map pair_view pairs.now) name.now before }
-{
-    for pair in pairs {
-        if pair.name.as_slice() == name && pair.from <= before {
-            return pair.answer;
-        }
-    }
-    Answer::Fault(Fault::NotFound)
 }
 
 impl<'a, A: Allocator + Copy> ToldSource<'a, A> {
@@ -97,7 +74,7 @@ impl<'a, A: Allocator + Copy> ToldSource<'a, A> {
     {
         let from = times(&self.asked, name);
         let name = Vec::from_slice(self.alloc, name)?;
-        self.pairs.push(StoredPair { name, answer, from })?;
+        self.pairs.push(StoredAnswer { name, answer, from })?;
         Ok(())
     }
 
@@ -136,24 +113,24 @@ impl<'a, A: Allocator + Copy> Source for ToldSource<'a, A> {
     fn open_file(&mut self, name: &[u8]) -> Result<Told<'a>, OpenFault> {
         let before = times(&self.asked, name);
         if let Err(NoRoom) = add_name(self.alloc, &mut self.asked, name) {
-            self.log = self.log.and(&Note::Refused);
+            self.log = self.log.with_note(&Note::Refused);
             return Err(OpenFault::Memory);
         }
         match answer_to(&self.pairs, name, before) {
             Answer::Fault(fault) => {
-                self.log = self.log.and(&Note::Failed(name, fault));
+                self.log = self.log.with_note(&Note::Failed(name, fault));
                 Err(OpenFault::Fault(fault))
             }
             Answer::Content(content, ending) => {
                 let file = Told::opened(content, ending, self.piece, next_file(&self.log, name));
-                self.log = self.log.and(&Note::Opened(name));
+                self.log = self.log.with_note(&Note::Opened(name));
                 Ok(file)
             }
         }
     }
 
     fn close_file(&mut self, file: Told<'a>) {
-        self.log = self.log.and(&Note::Closed(file.log()));
+        self.log = self.log.with_note(&Note::Closed(file.log()));
     }
 
     ghost gives_told = { λ s. s.gives };

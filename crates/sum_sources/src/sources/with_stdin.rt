@@ -2,14 +2,18 @@
 ghost use Rattle.std.specs.Prelude.{◌≡◌};
 ghost use Rattle.sum_sources.specs.sources.WithStdin.{IsSoundWithStdin, is_dash};
 
-use crate::sources::opened::{Opened, Place};
+use crate::sources::opened::Opened;
 use crate::sources::source_log::{ClosedFile, Note, OthersOf, SourceCalls, SourceLog, next_file};
+use crate::sources::stdin_or_file::StdinOrFile;
 use crate::{Input, OpenFault, Source, Stdin};
 use ghost_log::Log;
 use std::marker::PhantomData;
 
-/// Standard input and a source of files, as one source. Standard input is the file that is opened under the name `-`:
-/// the first opening gives it, and each later one gives an empty input. Other names are opened in the source.
+/// Standard input, as the file `-`, and a source of files, as one source: `first` is standard input before any opening,
+/// `log` has what both opened, and `is` holds them together.
+///
+/// The first opening of `-` gives standard input, and each later one gives an empty input. Other names are opened in
+/// the source.
 #[derive(Debug, Drop)]
 pub struct WithStdin<I: Input, S: Source> {
     stdin: Stdin<I>,
@@ -41,7 +45,7 @@ impl<I: Input, S: Source> WithStdin<I, S> {
         } }
     {
         let first = Log::of(&stdin);
-        let log = Log::of(&SourceCalls).and(&OthersOf(&source));
+        let log = Log::of(&SourceCalls).with_note(&OthersOf(&source));
         WithStdin {
             stdin,
             source,
@@ -80,7 +84,7 @@ impl<I: Input + Drop, S: Source> Source for WithStdin<I, S> {
     ghost tells = { answer_of_both S.tells };
 
     ghost use Rattle.std.specs.Prelude.{IfOk, MatchBool, MatchResult};
-    ghost use Rattle.sum_sources.specs.sources.{Opened.opened_state, Opened.place_in, WithStdin.TakesStdin};
+    ghost use Rattle.sum_sources.specs.sources.{Opened.opened_state, Opened.input_in, WithStdin.TakesStdin};
     ghost use Rattle.sum_sources.specs.sources.Source.{state_after_opening, opened_file};
 
     /// Opens the name: `-` gives what [`Stdin::take`] gives, and any other name is opened in the source.
@@ -92,7 +96,7 @@ impl<I: Input + Drop, S: Source> Source for WithStdin<I, S> {
         // source, and standard input is unchanged.
         ensures parts { MatchBool (is_dash name.now)
             (MatchResult result
-            (λ file. TakesStdin (stdin_in self.old) (stdin_in self.new) (place_in file)) (λ _. ⊥)
+            (λ file. TakesStdin (stdin_in self.old) (stdin_in self.new) (input_in file)) (λ _. ⊥)
             × (source_in self.new ≡ source_in self.old))
             ((stdin_in self.new ≡ stdin_in self.old)
             × (S.state (source_in self.new)
@@ -100,16 +104,16 @@ impl<I: Input + Drop, S: Source> Source for WithStdin<I, S> {
     {
         if is_dash(name) {
             let opened = Opened::from_stdin(self.stdin.take(), next_file(&self.log, name));
-            self.log = self.log.and(&Note::Opened(name));
+            self.log = self.log.with_note(&Note::Opened(name));
             return Ok(opened);
         }
         match self.source.open_file(name) {
             Ok(file) => {
-                self.log = self.log.and(&Note::Opened(name));
+                self.log = self.log.with_note(&Note::Opened(name));
                 Ok(Opened::from_file(file))
             }
             Err(OpenFault::Fault(fault)) => {
-                self.log = self.log.and(&Note::Failed(name, fault));
+                self.log = self.log.with_note(&Note::Failed(name, fault));
                 Err(OpenFault::Fault(fault))
             }
             Err(OpenFault::Memory) => Err(OpenFault::Memory),
@@ -124,14 +128,14 @@ impl<I: Input + Drop, S: Source> Source for WithStdin<I, S> {
         ensures state { both_state self.new
             ≡ state_after_closing (both_state self.old) (opened_state file) }
         ensures parts { (stdin_in self.new, S.state (source_in self.new))
-            ≡ parts_after_closing S.File.state (place_in file) (stdin_in self.old)
+            ≡ parts_after_closing S.File.state (input_in file) (stdin_in self.old)
             (S.state (source_in self.old)) }
     {
-        self.log = self.log.and(&ClosedFile(&file));
-        let Opened { place } = file;
-        match place {
-            Place::Stdin(given, _) => self.stdin.put_back(given),
-            Place::File(file) => self.source.close_file(file),
+        self.log = self.log.with_note(&ClosedFile(&file));
+        let Opened { input } = file;
+        match input {
+            StdinOrFile::Stdin(given, _) => self.stdin.put_back(given),
+            StdinOrFile::File(file) => self.source.close_file(file),
         }
     }
 

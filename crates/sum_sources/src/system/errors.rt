@@ -1,6 +1,6 @@
 //! What an error of the system means.
 ghost use Rattle.std.specs.{IoError.error_kind, IoError.raw_os_error, Prelude.◌≡◌};
-ghost use Rattle.sum_sources.specs.Fault.{fault_of_error};
+ghost use Rattle.sum_sources.specs.private.Fault.{fault_of_error};
 
 use crate::Fault;
 use crate::fault::{fault_of_kind, fault_of_number};

@@ -54,29 +54,29 @@ where
     fn open_file(&mut self, name: &[u8]) -> Result<FromRead<R::File>, OpenFault> {
         let Ok(path) = str::from_utf8(name) else {
             let fault = Fault::Os(EILSEQ);
-            self.log = self.log.and(&Note::Failed(name, fault));
+            self.log = self.log.with_note(&Note::Failed(name, fault));
             return Err(OpenFault::Fault(fault));
         };
         match fs::open(&self.rt, path) {
             Ok(file) => {
                 let log = next_file(&self.log, name);
-                self.log = self.log.and(&Note::Opened(name));
+                self.log = self.log.with_note(&Note::Opened(name));
                 Ok(FromRead::with_log(file, log))
             }
             Err(error) if is_refusal(&error) => {
-                self.log = self.log.and(&Note::Refused);
+                self.log = self.log.with_note(&Note::Refused);
                 Err(OpenFault::Memory)
             }
             Err(error) => {
                 let fault = fault_of(&error);
-                self.log = self.log.and(&Note::Failed(name, fault));
+                self.log = self.log.with_note(&Note::Failed(name, fault));
                 Err(OpenFault::Fault(fault))
             }
         }
     }
 
     fn close_file(&mut self, file: FromRead<R::File>) {
-        self.log = self.log.and(&Note::Closed(file.log()));
+        self.log = self.log.with_note(&Note::Closed(file.log()));
     }
 
     ghost gives_told = { untold_gives };

@@ -1,18 +1,21 @@
 //! An input over a reader of `std`. Nothing else can call the reader, or set the log of what it gave.
 ghost use Rattle.std.specs.Io.KnownBytes.{Consumes, ReadConsumes};
 ghost use Rattle.std.specs.Prelude.{◌≡◌, ◌≤◌, length, IfOk, IfSome, None};
-ghost use Rattle.sum_sources.specs.{Fault.Whole, inputs.FromRead.FromReadValue};
-ghost use Rattle.sum_sources.specs.inputs.Input.{Ended, state_after_read, empty_reads};
+ghost use Rattle.sum_sources.specs.{Fault.Whole};
+ghost use Rattle.sum_sources.specs.system.FromRead.{FromReadValue};
+ghost use Rattle.sum_sources.specs.inputs.Input.{Ended, state_after_read, empty_reads, no_reads};
 
-use crate::inputs::input_log::{InputLog, ReadNote};
+use crate::inputs::input_log::{InputCalls, InputLog, ReadNote};
 use crate::system::errors::fault_of;
 use crate::{Fault, Input};
+use std::fmt::{self, Debug, Formatter};
 use std::io::{ErrorKind, Read};
 use std::marker::Model;
 use std::snapshot::Snapshot;
 use sum_settings::INTERRUPTION_LIMIT;
 
-/// An `Input` over any `std::io::Read`.
+/// An `Input` over any `std::io::Read`: by its invariant its log has all that the reader gave since `first`, and a
+/// whole end only if the reader, as far as its bytes are known, has ended.
 #[derive(Drop)]
 pub struct FromRead<R: Read> {
     reader: R,
@@ -33,6 +36,14 @@ impl<R: Read> Model for FromRead<R> {
 }
 
 impl<R: Read> FromRead<R> {
+    /// Creates the input that reads from `reader`. An error of the reader becomes a fault by its number or, if it has
+    /// none, by its kind. The 1,000th interruption in a row within one read is `Fault::Other`.
+    pub fn new(reader: R) -> Self
+        ensures { result ≡ record { reader = reader; log = no_reads } }
+    {
+        FromRead::with_log(reader, InputLog::of(&InputCalls))
+    }
+
     // The input that reads from `reader`, with this log, which has no reads.
     pub(crate) fn with_log(reader: R, log: InputLog) -> Self
         requires { log.reads ≡ empty_reads }
@@ -50,6 +61,12 @@ impl<R: Read> FromRead<R> {
         ensures { result.now ≡ self.now.log }
     {
         &self.log
+    }
+}
+
+impl<R: Read> Debug for FromRead<R> {
+    fn fmt<W: fmt::Write>(&self, f: &mut Formatter<W>) -> fmt::Result {
+        f.write_str("FromRead")
     }
 }
 
@@ -81,7 +98,7 @@ impl<R: Read> Input for FromRead<R> {
         ensures log { self.new.log ≡ state_after_read self.old.log buf.new result }
     {
         let read = read_uninterrupted(&mut self.reader, buf);
-        self.log = self.log.and(&ReadNote(buf, &read));
+        self.log = self.log.with_note(&ReadNote(buf, &read));
         read
     }
 

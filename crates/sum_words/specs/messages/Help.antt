@@ -1,11 +1,14 @@
 -- The texts of --help and --version.
-use Rattle.std.specs.{Prelude.[], Prelude.◌-◌, Prelude.◌++◌, Prelude.codes, Prelude.flat_map, Prelude.if◌then◌else◌, Prelude.length, Prelude.replicate, Prelude.bytes_eq, Str.byte}
-use Rattle.digest_kinds.specs.{Algo.tag, Bytes.ByteString, declared.algo.Algos.Algos, declared.algo.Algos.TheVariants.One, declared.algo.Algos.TheVariants.Any}
-use Rattle.sum_words.specs.{Tool.name_of, Tool.algos_of, declared.parsing.options.Flag.Flag, declared.tool.Tool.Tool, parsing.Options.row_of, parsing.Options.takes_value, parsing.Options.flags_of}
+use Rattle.std.specs.{Prelude.[], Prelude.◌-◌, Prelude.◌++◌, Prelude.codes, Prelude.flat_map, Prelude.if◌then◌else◌}
+use Rattle.std.specs.{Prelude.length, Prelude.replicate, Prelude.bytes_eq, Str.byte}
+use Rattle.digest_kinds.specs.{Algo.tag_of, Bytes.ByteString, declared.algo.Algos.Algos}
+use Rattle.digest_kinds.specs.{declared.algo.Algos.TheVariants.One, declared.algo.Algos.TheVariants.Any}
+use Rattle.sum_words.specs.{Tool.name_of, Tool.algos_of, declared.parsing.options.Flag.Flag, declared.tool.Tool.Tool}
+use Rattle.sum_words.specs.{parsing.Options.row_of, parsing.Options.takes_value, parsing.Options.flags_of}
 
 -- what a tool with these algorithms is for
 abbrev pub purpose : Algos → ByteString
-purpose (One algo) = codes "Print or check " ++ tag algo ++ codes " checksums."
+purpose (One algo) = codes "Print or check " ++ tag_of algo ++ codes " checksums."
 purpose Any = codes "Check checksums of tagged lines."
 
 -- an option's letter in the help; spaces if it has none

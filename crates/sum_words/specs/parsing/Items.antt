@@ -1,9 +1,15 @@
 -- The items of a tool's words: options, values of --length, operands and a fault. No item follows a fault.
-use Rattle.std.specs.Prelude.{ℕ, ◌+◌, ◌==◌, ◌&&◌, not, Bool, List, [], ◌∷◌, map, drop, length, Option, None, Some, Result, Ok, Err, codes, if◌then◌else◌, option_map, position, bytes_eq, chars, encode_utf8_all}
+use Rattle.std.specs.Prelude.{ℕ, ◌+◌, ◌==◌, ◌&&◌, not, Bool, List, [], ◌∷◌, map, drop, length, Option, None, Some}
+use Rattle.std.specs.Prelude.{Result, Ok, Err, codes, if◌then◌else◌, option_map, position, bytes_eq, chars}
+use Rattle.std.specs.Prelude.{encode_utf8_all}
 use Rattle.std.specs.{List.starts_with, List.before_first, Str.byte, Str.is_utf8, Option.option_map_or}
 use Rattle.digest_kinds.specs.Bytes.{ByteString}
-use Rattle.sum_words.specs.declared.{parsing.options.Flag.Flag, parsing.options.Spelling.Spelling, parsing.options.Spelling.TheVariants.Long, parsing.options.Spelling.TheVariants.Short, tool.Tool.Tool}
-use Rattle.sum_words.specs.parsing.{Options.full_name, Options.takes_value, Options.name_or_fault, Options.option_of_letter, WordFault.WordFaultValue, WordFault.value_not_allowed, WordFault.value_missing, WordFault.unknown_short, WordFault.not_text}
+use Rattle.sum_words.specs.declared.{parsing.options.Flag.Flag, parsing.options.Spelling.Spelling}
+use Rattle.sum_words.specs.declared.{parsing.options.Spelling.TheVariants.Long}
+use Rattle.sum_words.specs.declared.{parsing.options.Spelling.TheVariants.Short, tool.Tool.Tool}
+use Rattle.sum_words.specs.parsing.{Options.full_name, Options.takes_value, Options.name_or_fault}
+use Rattle.sum_words.specs.parsing.{Options.option_of_letter, WordFault.WordFaultValue, WordFault.value_not_allowed}
+use Rattle.sum_words.specs.parsing.{WordFault.value_missing, WordFault.unknown_short, WordFault.not_text}
 
 -- an item of words: an option, the value of an option, an operand, or a fault. A fault is the last item
 pub data ItemValue : Type 0 where

@@ -1,8 +1,11 @@
 -- The options of the tools, by name and by letter.
 use Rattle.std.specs.{List.starts_with, Option.option_map_or}
-use Rattle.std.specs.Prelude.{ℕ, ◌==◌, not, Bool, true, false, List, [], ◌∷◌, Option, Result, Ok, Err, codes, filter, find, bytes_eq}
+use Rattle.std.specs.Prelude.{ℕ, ◌==◌, not, Bool, true, false, List, [], ◌∷◌, Option, Result, Ok, Err, codes, filter}
+use Rattle.std.specs.Prelude.{find, bytes_eq}
 use Rattle.digest_kinds.specs.Bytes.{ByteString}
-use Rattle.sum_words.specs.{declared.parsing.options.Flag.Flag, declared.tool.Tool.Tool, parsing.WordFault.WordFaultValue, parsing.WordFault.unknown_long, parsing.WordFault.ambiguous_long}
+use Rattle.sum_words.specs.{declared.parsing.options.Flag.Flag, declared.tool.Tool.Tool}
+use Rattle.sum_words.specs.{parsing.WordFault.WordFaultValue, parsing.WordFault.unknown_long}
+use Rattle.sum_words.specs.{parsing.WordFault.ambiguous_long}
 use Rattle.sum_words.specs.declared.tool.Tool.TheVariants as tools
 use Rattle.sum_words.specs.declared.parsing.options.Flag.TheVariants as flags
 

@@ -1,27 +1,35 @@
 -- What a tool's words ask for: a request, or the first fault that counts.
-use Rattle.std.specs.Prelude.{◌&&◌, ◌||◌, not, nat_lt, Bool, true, false, List, [], ◌∷◌, Option, None, Some, Result, Ok, Err, if◌then◌else◌, unwrap_or, option_map, option_to_list, filter, bytes_eq, filter_map}
-use Rattle.std.specs.{List.last_or, List.list_all, List.list_any, Option.ok_or, Option.option_or, Option.option_and_then, Result.result_ok, Result.result_err, Char.is_ascii_digit, Str.Parse.digits_value}
-use Rattle.digest_kinds.specs.{Bytes.ByteString, Kind.KindValue, Kind.full_kind, Kind.blake2b_of_bits, declared.algo.Algos.Algos, declared.algo.Algos.TheVariants.One, declared.algo.Algos.TheVariants.Any}
+use Rattle.std.specs.Prelude.{◌&&◌, ◌||◌, not, nat_lt, Bool, true, false, List, [], ◌∷◌, Option, None, Some, Result, Ok}
+use Rattle.std.specs.Prelude.{Err, if◌then◌else◌, unwrap_or, option_map, option_to_list, filter, bytes_eq, filter_map}
+use Rattle.std.specs.{List.last_or, List.list_all, List.list_any, Option.ok_or, Option.option_or}
+use Rattle.std.specs.{Option.option_and_then, Result.result_ok, Result.result_err, Char.is_ascii_digit}
+use Rattle.std.specs.{Str.Parse.digits_value}
+use Rattle.digest_kinds.specs.{Bytes.ByteString, Kind.KindValue, Kind.full_kind, Kind.blake2b_of_bits}
+use Rattle.digest_kinds.specs.{declared.algo.Algos.Algos, declared.algo.Algos.TheVariants.One}
+use Rattle.digest_kinds.specs.{declared.algo.Algos.TheVariants.Any}
 use Rattle.sum_settings.specs.declared.{settings.Report.Report, style.Mode.Mode, style.Style.Style}
-use Rattle.sum_words.specs.parsing.WordFault.{WordFaultValue, length_invalid, length_not_bytes, tag_with_text, zero_with_check, tag_with_check, mode_with_check, without_check, check_needed}
+use Rattle.sum_words.specs.parsing.WordFault.{WordFaultValue, length_invalid, length_not_bytes, tag_with_text}
+use Rattle.sum_words.specs.parsing.WordFault.{zero_with_check, tag_with_check, mode_with_check, without_check}
+use Rattle.sum_words.specs.parsing.WordFault.{check_needed}
 use Rattle.sum_words.specs.parsing.Items.{ItemValue, option, fault, a_word, items_from, option_in, value_in, operand_in}
 use Rattle.sum_words.specs.declared.parsing.request.Request.TheVariants.{Generate, Check, Help, Version}
-use Rattle.sum_words.specs.{Tool.algos_of, declared.parsing.options.Flag.Flag, declared.parsing.request.Request.Request, declared.tool.Tool.Tool, parsing.Options.full_name}
+use Rattle.sum_words.specs.{Tool.algos_of, declared.parsing.options.Flag.Flag, declared.parsing.request.Request.Request}
+use Rattle.sum_words.specs.{declared.tool.Tool.Tool, parsing.Options.full_name}
 use Rattle.sum_settings.specs.declared.style.Mode.TheVariants as modes
 use Rattle.sum_settings.specs.declared.settings.Report.TheVariants as reports
 use Rattle.sum_words.specs.declared.parsing.options.Flag.TheVariants as flags
 
 -- whether an option is in a list. Options are told apart by their full names
-abbrev pub has : Flag → List Flag → Bool
-has flag list = list_any (λ other. bytes_eq (full_name flag) (full_name other)) list
+abbrev pub has_flag : Flag → List Flag → Bool
+has_flag flag list = list_any (λ other. bytes_eq (full_name flag) (full_name other)) list
 
--- the last given option of a kind, or this earlier one if none is given
+-- the last given option of a group, or this earlier one if none is given
 abbrev pub last_of : List Flag → Option Flag → List Flag → Option Flag
-last_of kind earlier given = last_or earlier (filter (λ flag. has flag kind) given)
+last_of group earlier given = last_or earlier (filter (λ flag. has_flag flag group) given)
 
--- whether an option is the last given option of a kind
+-- whether an option is the last given option of a group
 abbrev pub is_last : Flag → List Flag → List Flag → Bool
-is_last flag kind given = has flag (option_to_list (last_of kind None given))
+is_last flag group given = has_flag flag (option_to_list (last_of group None given))
 
 -- the options that set the mode of lines
 abbrev pub mode_flags : List Flag
@@ -46,18 +54,18 @@ length_kind value = let bits = digits_value 10 value in
 
 -- the first fault of the given options in combination, if they have one
 abbrev pub fault_of_options : List Flag → Option WordFaultValue
-fault_of_options given = let check = has flags.Check given in
-    if has flags.Tag given && is_last flags.Text mode_flags given then Some tag_with_text
-    else if has flags.Zero given && check then Some zero_with_check
-    else if has flags.Tag given && check then Some tag_with_check
-    else if (has flags.Binary given || has flags.Text given) && check then Some mode_with_check
+fault_of_options given = let check = has_flag flags.Check given in
+    if has_flag flags.Tag given && is_last flags.Text mode_flags given then Some tag_with_text
+    else if has_flag flags.Zero given && check then Some zero_with_check
+    else if has_flag flags.Tag given && check then Some tag_with_check
+    else if (has_flag flags.Binary given || has_flag flags.Text given) && check then Some mode_with_check
     else if check then None
-    else option_map without_check (if has flags.IgnoreMissing given then Some flags.IgnoreMissing
-    else option_or (last_of report_flags None given) (if has flags.Strict given then Some flags.Strict else None))
+    else option_map without_check (if has_flag flags.IgnoreMissing given then Some flags.IgnoreMissing
+    else option_or (last_of report_flags None given) (if has_flag flags.Strict given then Some flags.Strict else None))
 
 -- the mode of lines that the given options set
 abbrev pub mode_of : List Flag → Mode
-mode_of given = if has flags.Tag given then modes.Tag
+mode_of given = if has_flag flags.Tag given then modes.Tag
     else if is_last flags.Binary mode_flags given then modes.Binary else modes.Text
 
 -- the report of a check that the given options set
@@ -70,10 +78,10 @@ report_of given = if is_last flags.Status report_flags given then reports.Status
 abbrev pub request_of_options :
     Bool → Algos → Option KindValue → List Flag → List ByteString → Result Request WordFaultValue
 request_of_options true algos kind given operands =
-    let strict = has flags.Strict given in let missing = has flags.IgnoreMissing given in
+    let strict = has_flag flags.Strict given in let missing = has_flag flags.IgnoreMissing given in
     Ok (Check (record { algo = algos; report = report_of given; strict = strict; ignore_missing = missing }) operands)
 request_of_options false (One algo) kind given operands =
-    let style : Style = record { mode = mode_of given; zero = has flags.Zero given } in
+    let style : Style = record { mode = mode_of given; zero = has_flag flags.Zero given } in
     Ok (Generate (record { kind = unwrap_or kind (full_kind algo); style = style }) operands)
 request_of_options false Any kind given operands = Err check_needed
 
@@ -89,8 +97,9 @@ early_request (item ∷ items) = early_request items
 -- of the options in combination
 abbrev pub request : Tool → List ByteString → Result Request WordFaultValue
 request tool words = let items = items_from tool words a_word in let given = filter_map option_in items in
-    let kind = option_map length_kind (last_or None (filter_map value_in items)) in
-    let wrong = option_or (option_and_then result_err kind) (fault_of_options given) in
-    let asked = request_of_options (has flags.Check given) (algos_of tool) (option_and_then result_ok kind) given
+    let length = option_map length_kind (last_or None (filter_map value_in items)) in
+    let wrong = option_or (option_and_then result_err length) (fault_of_options given) in
+    let by_options = request_of_options (has_flag flags.Check given) (algos_of tool)
+    (option_and_then result_ok length) given
     (filter_map operand_in items) in
-    unwrap_or (option_or (early_request items) (option_map Err wrong)) asked
+    unwrap_or (option_or (early_request items) (option_map Err wrong)) by_options

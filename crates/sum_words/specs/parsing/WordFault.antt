@@ -1,7 +1,8 @@
 -- What may be wrong with the words of a command line.
 use Rattle.std.specs.Prelude.{ℕ, Result, Ok, Err}
 use Rattle.digest_kinds.specs.Bytes.{ByteString}
-use Rattle.sum_words.specs.declared.parsing.{options.Flag.Flag, options.Spelling.Spelling, word_fault.WordFault.WordFault}
+use Rattle.sum_words.specs.declared.parsing.{options.Flag.Flag, options.Spelling.Spelling}
+use Rattle.sum_words.specs.declared.parsing.{word_fault.WordFault.WordFault}
 use Rattle.sum_words.specs.declared.parsing.options.Flag.TheVariants as flags
 use Rattle.sum_words.specs.declared.parsing.word_fault.WordFault.TheVariants as word_faults
 

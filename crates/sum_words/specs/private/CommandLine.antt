@@ -1,8 +1,10 @@
 -- Relates what was read of the command line to what the calls for arguments gave.
-use Rattle.std.specs.Prelude.{ℕ, ◌≡◌, ◌<◌, ◌≤◌, List, [], ◌∷◌, ◌++◌, length, take, slice_get, Option, None, Some, IsSomeAnd, Result, Ok, Err}
+use Rattle.std.specs.Prelude.{ℕ, ◌≡◌, ◌<◌, ◌≤◌, List, [], ◌∷◌, ◌++◌, length, take, slice_get, Option, None, Some}
+use Rattle.std.specs.Prelude.{IsSomeAnd, Result, Ok, Err}
 use Rattle.std.specs.declared.env.FillError.{FillError, TheVariants.NotPresent, TheVariants.TooLong}
 use Rattle.digest_kinds.specs.Bytes.{ByteString}
-use Rattle.sum_words.specs.{Arguments.ArgumentsState, Arguments.FitsArguments, CommandLine.command_line, declared.tool.Tool.Tool}
+use Rattle.sum_words.specs.{Arguments.ArgumentsState, Arguments.FitsArguments, CommandLine.command_line}
+use Rattle.sum_words.specs.{declared.tool.Tool.Tool}
 
 -- what a `fill` returns: the buffer starts with the argument at the place, or that is longer, or there is none
 abbrev pub Fills : List ByteString → ℕ → ByteString → Result ℕ FillError → Type 0

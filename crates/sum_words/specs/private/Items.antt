@@ -1,8 +1,12 @@
 -- Relates the iterator over the words to the list of items: the values of its types, and the items that remain.
 use Rattle.std.specs.Prelude.{ℕ, map, List, [], ◌∷◌, chars, encode_utf8_all}
 use Rattle.digest_kinds.specs.Bytes.{ByteString}
-use Rattle.sum_words.specs.declared.{parsing.items.Item.Item, parsing.items.ParserState.ParserState, parsing.items.ParserStep.ParserStep, parsing.options.Spelling.TheVariants.Short, tool.Tool.Tool}
-use Rattle.sum_words.specs.parsing.{Items.ItemValue, Items.option, Items.length_value, Items.operand, Items.fault, Items.a_word, Items.a_value, Items.cluster, Items.items_from, WordFault.word_fault_value}
+use Rattle.sum_words.specs.declared.{parsing.items.Item.Item, parsing.items.ParserState.ParserState}
+use Rattle.sum_words.specs.declared.{parsing.items.ParserStep.ParserStep, parsing.options.Spelling.TheVariants.Short}
+use Rattle.sum_words.specs.declared.{tool.Tool.Tool}
+use Rattle.sum_words.specs.parsing.{Items.ItemValue, Items.option, Items.length_value, Items.operand, Items.fault}
+use Rattle.sum_words.specs.parsing.{Items.a_word, Items.a_value, Items.cluster, Items.items_from}
+use Rattle.sum_words.specs.parsing.{WordFault.word_fault_value}
 use Rattle.sum_words.specs.declared.parsing.items.Item.TheVariants as items
 use Rattle.sum_words.specs.declared.parsing.items.ParserState.TheVariants as states
 use Rattle.sum_words.specs.declared.parsing.items.ParserStep.TheVariants as steps

@@ -1,14 +1,21 @@
 -- Relates the scan of the options to the request: the values so far, and what they make of it.
-use Rattle.std.specs.Prelude.{ℕ, ◌≡◌, ◌<◌, ◌^◌, ◌&&◌, ◌||◌, not, bytes_eq, true, Bool, List, [], Option, None, Some, SomeIff, option_copied, filter_map}
+use Rattle.std.specs.Prelude.{ℕ, ◌≡◌, ◌<◌, ◌^◌, ◌&&◌, ◌||◌, not, bytes_eq, true, Bool, List, [], Option, None, Some}
+use Rattle.std.specs.Prelude.{SomeIff, option_copied, filter_map}
 use Rattle.std.specs.{List.last_or, List.list_all, Char.is_ascii_digit, Str.Parse.digits_value}
 use Rattle.digest_kinds.specs.Bytes.{ByteString}
-use Rattle.sum_words.specs.declared.parsing.{options.Flag.Flag, request.Chosen.Chosen, request.ScannedOptions.ScannedOptions, request.ScannedOptions.TheVariants.Options, request.ScannedOptions.TheVariants.Early}
-use Rattle.sum_words.specs.parsing.{Items.ItemValue, Items.option_in, Items.value_in, Request.report_flag, Request.early_request, Request.has, Request.last_of, Request.mode_flags, Request.report_flags, WordFault.result_value}
+use Rattle.sum_words.specs.declared.parsing.{options.Flag.Flag, request.Chosen.Chosen}
+use Rattle.sum_words.specs.declared.parsing.{request.ScannedOptions.ScannedOptions}
+use Rattle.sum_words.specs.declared.parsing.{request.ScannedOptions.TheVariants.Options}
+use Rattle.sum_words.specs.declared.parsing.{request.ScannedOptions.TheVariants.Early}
+use Rattle.sum_words.specs.parsing.{Items.ItemValue, Items.option_in, Items.value_in, Request.report_flag}
+use Rattle.sum_words.specs.parsing.{Request.early_request, Request.has_flag, Request.last_of, Request.mode_flags}
+use Rattle.sum_words.specs.parsing.{Request.report_flags, WordFault.result_value}
 use Rattle.sum_words.specs.declared.parsing.options.Flag.TheVariants as flags
 
 -- an option was given earlier, or is in the rest, exactly if it is among all
 abbrev pub IsThere : Flag → Bool → List ItemValue → List ItemValue → Type 0
-IsThere flag earlier rest all = (has flag (filter_map option_in rest) || earlier) ≡ has flag (filter_map option_in all)
+IsThere flag earlier rest all = (has_flag flag (filter_map option_in rest) || earlier) ≡ has_flag flag
+    (filter_map option_in all)
 
 -- the options chosen so far and those of the rest are those of all items
 pub record IsChosenBy (chosen : Chosen) (rest all : List ItemValue) : Type 0 where

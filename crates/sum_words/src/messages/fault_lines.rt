@@ -15,7 +15,7 @@ pub fn put_fault<E: Sink>(
     tool: Tool,
     fault: &WordFault<'_>,
 ) -> Result<(), SinkFault>
-    ensures { WritesAll err.old err.new (fault_lines tool (word_fault_value fault.now)) result }
+    ensures text { WritesAll err.old err.new (fault_lines tool (word_fault_value fault.now)) result }
 {
     let mut buffer = [0; 4];
     let (prefix, shown, suffix) = wording(*fault, &mut buffer);

@@ -13,7 +13,7 @@ use sum_lines::{Buffered, Part, Sink, SinkFault, put_all, put_parts};
 
 /// Writes the help text to the buffer.
 pub fn put_help<O: Sink>(out: &mut Buffered<O>, tool: Tool) -> Result<(), SinkFault>
-    ensures { WritesAll out.old out.new (help tool) result }
+    ensures text { WritesAll out.old out.new (help tool) result }
 {
     let usage = Part::Bytes(b"Usage: ");
     let name = Part::Bytes(tool.name().as_bytes());
@@ -117,7 +117,7 @@ fn padding(columns: usize) -> &'static [u8]
 
 /// Writes the version text to the buffer.
 pub fn put_version<O: Sink>(out: &mut Buffered<O>, tool: Tool) -> Result<(), SinkFault>
-    ensures { WritesAll out.old out.new (version tool) result }
+    ensures text { WritesAll out.old out.new (version tool) result }
 {
     let name = Part::Bytes(tool.name().as_bytes());
     put_parts(out, &[name, Part::Bytes(b" (digests), profile 2\n")])

@@ -36,7 +36,7 @@ pub fn read_words<'a, A: Allocator>(
     tool: Tool,
     words: &'a Words<A>,
 ) -> Result<Request<'a>, WordFault<'a>>
-    ensures { result_value result ≡ request tool words.now }
+    ensures request { result_value result ≡ request tool words.now }
 {
     let chosen = match read_options(tool, words) {
         ScannedOptions::Options(chosen) => chosen,

@@ -1,5 +1,7 @@
-use Rattle.std.{proofs.Common.◌≡◌, proofs.Common.ap, proofs.Common.fold, proofs.Common.refl, proofs.Common.◌∙◌, specs.List.range_with_len}
-use Rattle.blake2b_core.specs.{Compression.compress, Compression.round, Compression.work_vector, private.Columns.block_words, private.Columns.next_state, private.Columns.words}
+use Rattle.std.{proofs.Common.◌≡◌, proofs.Common.ap, proofs.Common.fold, proofs.Common.refl, proofs.Common.◌∙◌}
+use Rattle.std.{specs.List.range_with_len}
+use Rattle.blake2b_core.specs.{Compression.compress, Compression.round, Compression.work_vector}
+use Rattle.blake2b_core.specs.{private.Columns.block_words, private.Columns.next_state, private.Columns.words}
 use Rattle.blake2b_core.proofs.compression.advance.Goals as goal
 
 -- twelve rounds, and the new state

@@ -1,5 +1,6 @@
 use Rattle.std.proofs.Common.{refl}
-use Rattle.blake2b_core.specs.{Compression.round, private.Columns.columns, private.Columns.diagonals, private.Columns.schedule}
+use Rattle.blake2b_core.specs.{Compression.round, private.Columns.columns, private.Columns.diagonals}
+use Rattle.blake2b_core.specs.{private.Columns.schedule}
 use Rattle.blake2b_core.proofs.compression.round.Goals as goal
 
 -- the columns, and then the diagonals

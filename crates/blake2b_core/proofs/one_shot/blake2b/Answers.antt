@@ -1,5 +1,7 @@
-use Rattle.std.proofs.{Common.◌≡◌, Common.◌+◌, Common.◌*◌, Common.length, Common.ap, Common.◌∙◌, Common.arith, Common.refl, lemmas.List.take_rest}
-use Rattle.blake2b_core.{proofs.BlockLemmas.are_blocks, proofs.BlockLemmas.blake2b-from, specs.Digest.count_before_last, specs.Digest.hash_after}
+use Rattle.std.proofs.{Common.◌≡◌, Common.◌+◌, Common.◌*◌, Common.length, Common.ap, Common.◌∙◌, Common.arith}
+use Rattle.std.proofs.{Common.refl, lemmas.List.take_rest}
+use Rattle.blake2b_core.{proofs.BlockLemmas.are_blocks, proofs.BlockLemmas.blake2b-from, specs.Digest.count_before_last}
+use Rattle.blake2b_core.{specs.Digest.hash_after}
 use Rattle.blake2b_core.proofs.one_shot.blake2b.Goals as goal
 
 -- the blocks before the last, and then that

@@ -1,5 +1,5 @@
 use Rattle.std.proofs.Common.{◌≡◌, ℕ, ◌+◌, ◌*◌, List}
-use Rattle.blake2b_core.specs.Digest.{hash_after, HasBlocksFrom}
+use Rattle.blake2b_core.specs.{Digest.hash_after, private.OneShot.HasBlocksFrom}
 use Rattle.blake2b_core.proofs.one_shot.state_after.Given as goal
 
 -- the blocks so far were compressed, whatever message they begin at block k of

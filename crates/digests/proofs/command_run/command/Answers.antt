@@ -1,6 +1,7 @@
 use Rattle.std.proofs.Common.{Some, inl, inr}
 use Rattle.sum_engine.proofs.WorldLemmas.{reads_weaker}
-use Rattle.digests.{proofs.ProgramLemmas.CallPerforms-finished, proofs.ProgramLemmas.CallRefuses-refused, specs.Meaning.meaning}
+use Rattle.digests.{proofs.ProgramLemmas.CallPerforms-finished, proofs.ProgramLemmas.CallRefuses-refused}
+use Rattle.digests.specs.ToolRun.{meaning}
 use Rattle.digests.proofs.command_run.command.Goals as goal
 
 -- the tool was run

@@ -3,4 +3,4 @@ use Rattle.digests.proofs.laws.joined_is_good.Goals as goal
 
 -- what several runs wrote, one after another
 pub returns : goal.returns
-returns c = written_is_good
+returns c = record { accepted = written_is_good }

@@ -4,4 +4,4 @@ use Rattle.digests.proofs.laws.written_is_good.Goals as goal
 
 -- what is written by one run
 pub returns : goal.returns
-returns c = λ g. written_is_good (g ∷ [])
+returns c = record { accepted = λ g. written_is_good (g ∷ []) }

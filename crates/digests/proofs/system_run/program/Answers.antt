@@ -1,9 +1,12 @@
-use Rattle.std.proofs.Common.{rules, arith, ◌≡◌, ◌⊎◌, ℕ, suc, List, [], ◌∷◌, Option, None, Some, Ok, IfSome, codes, inl, inr, true, ap}
+use Rattle.std.proofs.Common.{rules, arith, ◌≡◌, ◌⊎◌, ℕ, suc, List, [], ◌∷◌, Option, None, Some, Ok, IfSome, codes, inl}
+use Rattle.std.proofs.Common.{inr, true, ap}
 use Rattle.digest_kinds.specs.Bytes.{ByteString}
 use Rattle.sum_engine.specs.{Behavior.World, Streams.StreamsState}
 use Rattle.sum_lines.specs.sinks.Sink.{SinkState}
-use Rattle.sum_sources.specs.{Fault.bad_descriptor, declared.fault.Ending.TheVariants.Broken, inputs.Input.Content, inputs.Input.empty_content}
-use Rattle.sum_sources.specs.sources.{Source.Pair, Source.ToldAnswers, WithStdin.answer_of_both, WithStdin.pairs_with_stdin}
+use Rattle.sum_sources.specs.{Fault.bad_descriptor, declared.fault.Ending.TheVariants.Broken, inputs.Input.Content}
+use Rattle.sum_sources.specs.{inputs.Input.empty_content}
+use Rattle.sum_sources.specs.sources.{Source.ToldAnswer, Source.ToldAnswers, WithStdin.answer_of_both}
+use Rattle.sum_sources.specs.sources.{WithStdin.pairs_with_stdin}
 use Rattle.digests.specs.Program.{fresh_output, fresh_streams}
 use Rattle.digests.proofs.system_run.program.Goals as goal
 
@@ -26,7 +29,7 @@ returns-clause-behavior g c =
     at did.behavior
 
 -- standard input and files tell that a later `-` is empty
-later_empty : {first : Pair} {told more : List Pair} (tells : ToldAnswers) (w : World) → told ≡ first ∷ more
+later_empty : {first : ToldAnswer} {told more : List ToldAnswer} (tells : ToldAnswers) (w : World) → told ≡ first ∷ more
     → ((name : ByteString) (k : ℕ) → IfSome (answer_of_both tells told name k) (λ told. w.answer name k ≡ told))
     → (k : ℕ) → w.answer (codes "-") (suc k) ≡ Ok empty_content
 later_empty tells w is are k = rw is at (are (codes "-") (suc k))
@@ -34,7 +37,7 @@ later_empty tells w is are k = rw is at (are (codes "-") (suc k))
 -- standard input is open or closed, and a later `-` is empty in both cases
 pub returns-clause-once : goal.returns-clause-once
 returns-clause-once g c =
-    let (w, agrees, are) = rw (ap (λ (s : StreamsState). s.inputs) c.streams.view_is) at c.told_agree.ensures in
+    let (w, agrees, are) = rw (ap (λ (s : StreamsState). s.inputs) c.streams.view_is) at c.told_agree.ensures.world in
     let told = c.command-status.new.streams.inputs.told in
     let closed : Content = record { bytes = []; ending = Broken bad_descriptor } in
     let alone : (told ≡ pairs_with_stdin None []) ⊎ (told ≡ pairs_with_stdin (Some closed) []) = search rules in

@@ -1,5 +1,7 @@
-use Rattle.std.proofs.{Common.rules, Common.arith, Common.ap, Common.Ok, Math.Bool.and-true, lemmas.Result.err_from_is_err_and}
-use Rattle.sum_engine.proofs.{ExecutionLemmas.Happened-none, WorldLemmas.reads_none, WorldLemmas.reads_weaker, WorldLemmas.reads_then}
+use Rattle.std.proofs.{Common.rules, Common.arith, Common.ap, Common.Ok, Math.Bool.and-true}
+use Rattle.std.proofs.{lemmas.Result.err_from_is_err_and}
+use Rattle.sum_engine.proofs.{ExecutionLemmas.Happened-none, WorldLemmas.reads_none, WorldLemmas.reads_weaker}
+use Rattle.sum_engine.proofs.{WorldLemmas.reads_then}
 use Rattle.digests.proofs.OperandLemmas.{left-next, operands_done_step, operands_done_stop}
 use Rattle.digests.proofs.tool_run.run_operands.Goals as goal
 
@@ -10,7 +12,7 @@ operands-init g c = record {
     reads = reads_none c.args.streams.now.inputs;
     completes = λ w agrees z r did. rw c.first_name.ensures did;
   };
-  so_far = search rules;
+  failures = search rules;
 }
 
 -- an operand stopped the run
@@ -33,7 +35,7 @@ operands-preserved g c =
       reached = rw (← left-next c.operands.operands _ c.next-next.result c.next-next.ensures.steps)
           (operands_done_step c.in_ok-good.field-0 c.run_operand.new.streams (rw c.in-Some.is at so_far.reached)
           (λ good. ap Ok good) c.in_ok-good.ensures.reads c.in_ok-good.ensures.behavior);
-      so_far = search rules;
+      failures = search rules;
     }
 
 -- no operand is left

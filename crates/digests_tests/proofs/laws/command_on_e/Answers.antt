@@ -10,8 +10,9 @@ unfolding tool_called
 returns g c = λ answer told empty zero.
     let did = c.command-status.ensures in
     let w : World = record { answer = answer; opened = opened_names c.args.streams.now.inputs } in
-    let (v, agrees, are) = rw (ap (λ (s : StreamsState). s.inputs) c.streams.view_is) at c.told_agree.ensures in
+    let (v, agrees, are) = rw (ap (λ (s : StreamsState). s.inputs) c.streams.view_is) at c.told_agree.ensures.world in
     let (end, ran, same, out) = ran_to_end _ (does (codes "e" ∷ []) w) (λ needs. (v, agrees))
-    (c.told_program_performs.ensures (codes "md5sum" ∷ codes "e" ∷ []) answer _ _ (did.told ∙ c.requires.told) told
+    (c.told_program_performs.ensures.meaning (codes "md5sum" ∷ codes "e" ∷ []) answer _ _
+    (did.told ∙ c.requires.told) told
     did.behavior did.reads) zero in
     rw out (good_run (codes "e" ∷ []) w _ end (Ok 0) _ (empty_file w (rw c.requires.start empty)) ran).1

@@ -11,6 +11,7 @@ returns g c = λ answer told empty zero.
     let did = c.command-status.ensures in
     let w : World = record { answer = answer; opened = opened_names c.args.streams.now.inputs } in
     let (end, ran, same, out) = ran_to_end _ (does [] w) (λ needs. absurd (search rules))
-    (c.told_program_performs.ensures (codes "md5sum" ∷ []) answer _ _ (did.told ∙ c.requires.told) told did.behavior
+    (c.told_program_performs.ensures.meaning (codes "md5sum" ∷ []) answer _ _
+    (did.told ∙ c.requires.told) told did.behavior
     did.reads) zero in
     rw out (good_run [] w _ end (Ok 0) _ (empty_stdin w (rw c.requires.start empty)) ran).1

@@ -1,7 +1,8 @@
 use Rattle.std.proofs.Common.{[], ◌∷◌, ◌++◌, codes, refl, append_assoc}
 use Rattle.sum_engine.{proofs.BehaviorLemmas.events_extend, specs.Execution.Performs}
 use Rattle.sum_words.specs.{Tool.tool_called, declared.tool.Tool.TheVariants.Md5sum}
-use Rattle.digests.specs.{Meaning.meaning, Meaning.status_of, Program.fresh_output}
+use Rattle.digests.specs.{Program.fresh_output}
+use Rattle.digests.specs.ToolRun.{meaning, status_of}
 use Rattle.digests_tests.proofs.WorkedExamples.{ran_to_end, dash_twice}
 use Rattle.digests_tests.proofs.laws.dash_twice.Goals as goal
 

@@ -1,12 +1,13 @@
 use Rattle.std.proofs.Common.{arith, ◌≡◌, ◌∙◌, ap, refl, ◌∷◌, ◌++◌, [], Ok, Some, codes}
 use Rattle.sum_engine.specs.Streams.{BothOutputs}
 use Rattle.sum_lines.specs.sinks.Sink.{SinkState}
-use Rattle.sum_sources.specs.sources.Source.{Pair, SourceState, first_answer, names_of, answer_of_first, times}
-use Rattle.sum_sources.specs.{sources.WithStdin.answers_with, sources.WithStdin.pairs_with_stdin, inputs.Input.empty_content}
+use Rattle.sum_sources.specs.sources.Source.{ToldAnswer, SourceState, first_answer, names_of, answer_of_first, times}
+use Rattle.sum_sources.specs.{sources.WithStdin.answers_with, sources.WithStdin.pairs_with_stdin}
+use Rattle.sum_sources.specs.{inputs.Input.empty_content}
 use Rattle.digests_tests.proofs.laws.e_in_memory.Goals as goal
 
 -- the file `e`, as the source has it
-abbrev e : Pair
+abbrev e : ToldAnswer
 e = record { name = codes "e"; from = 0; answer = Some (Ok empty_content) }
 
 -- all that is told is in memory: standard input and `e`
@@ -24,5 +25,5 @@ returns c = λ zero.
     (rw told all) refl zero in
     let none : c.new-streams.result.outputs.out.written ≡ [] =
     ap (λ (o : BothOutputs). o.out.written) c.new-streams.ensures.outputs ∙ c.new-2.ensures.empty in
-    ap (λ (s : SinkState). s.output.written) c.into_inner.ensures
+    ap (λ (s : SinkState). s.output.written) c.into_inner.ensures.sink
     ∙ (rw (none, ← c.streams.view_is, ← c.streams-inside.view_is) at wrote)

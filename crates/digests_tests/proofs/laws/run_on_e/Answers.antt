@@ -11,5 +11,5 @@ returns g c = λ answer told empty.
     let ran = c.run-outcome.ensures in
     let w : World = record { answer = answer; opened = opened_names a.inputs } in
     good_run (codes "e" ∷ []) w a _ c.run-outcome.result _ (empty_file w (rw c.requires.start empty))
-    (c.told_performs.ensures Md5sum (codes "e" ∷ []) answer a c.run-outcome.result told
+    (c.told_performs.ensures.meaning Md5sum (codes "e" ∷ []) answer a c.run-outcome.result told
     (rw c.requires.words at ran.behavior) ran.reads)

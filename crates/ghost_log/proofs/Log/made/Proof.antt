@@ -14,7 +14,8 @@ use denote.Ref.{shr_vals, shr_Tells}
 use denote.Shadow.{pure_i}
 use denote.Signature.{plain, types_at}
 use denote.Triple.{Entry.alive, Walked.says, Walked.stay_none_ref, Walked.Stays, Walked.ends_at, Walked.Goes-none_ref}
-use Rattle.ghost_log.{proofs.Log.made.Statement.statement, specs.contracts.Log.made.ended, specs.contracts.Log.made.clauses}
+use Rattle.ghost_log.{proofs.Log.made.Statement.statement, specs.contracts.Log.made.ended}
+use Rattle.ghost_log.{specs.contracts.Log.made.clauses}
 use Rattle.ghost_log.specs.contracts.Log.{the_row as Row}
 use Rattle.ghost_log.specs.contracts.Log.made.Key.{name as #self}
 use Rattle.ghost_log.proofs.Log.made.Code as code
@@ -30,7 +31,7 @@ made_spec 𝓤 𝓛 𝓜 𝓡 wired T X Y L LX LY g d _ =
     (inst_fn inst code.function) (code.unfolded 𝓤 𝓛.H 𝓜 𝓡 wired (T, (X, (Y, tt))) d)
     (λ κs. (shr_vals, tt)) (λ κs. (shr_Tells (named 0) κs.0 R, tt))
     (λ κs qs bounds a gh are.
-    let made : (Row (param 0 T)).Denot = g.says a.0.now in
+    let made : (Row (param 0 T)).Denot = g.state_of a.0.now in
     let vss : Valss (types_at En.signature.params κs) = (shr_vals a.0, tt) in
     qed 𝓛 ((raw (alive 𝓛 En.signature κs qs) ⊛ ‵ (owns (types_at En.signature.params κs) a vss))
     ∷ raw ((c κs a).requires gh) ∷ []) ∵

@@ -1,8 +1,13 @@
 use Rattle.std.proofs.Common.{◌≡◌, ◌∙◌, ◌++◌, ◌∷◌, [], None, List, ℕ, refl, ap, sym, arith}
 use Rattle.std.{proofs.lemmas.List.map-append, specs.Prelude.MatchBool}
-use Rattle.sum_sources.{proofs.GaveLemmas.is_open_last, proofs.GaveLemmas.names-closed, specs.declared.sources.opened.Place.Place, specs.declared.sources.opened.Place.TheVariants.File, specs.declared.sources.opened.Place.TheVariants.Stdin}
-use Rattle.sum_sources.specs.inputs.{Input.InputState, Stdin.StdinPlace, Stdin.given_input, Stdin.stdin_after_put_back, Stdin.stdin_after_taking}
-use Rattle.sum_sources.specs.sources.{Place.is_stdin, WithStdin.parts_after_closing, WithStdin.TakesStdin, WithStdin.answer_of_both, WithStdin.is_dash, Source.SourceState, Source.state_with_opening, Source.names_of}
+use Rattle.sum_sources.{proofs.GaveLemmas.is_open_last, proofs.GaveLemmas.names-closed}
+use Rattle.sum_sources.specs.declared.sources.stdin_or_file.StdinOrFile.{StdinOrFile}
+use Rattle.sum_sources.specs.declared.sources.stdin_or_file.StdinOrFile.TheVariants.{File, Stdin}
+use Rattle.sum_sources.specs.inputs.{Input.InputState, Stdin.StdinValue, Stdin.given_input, Stdin.stdin_after_put_back}
+use Rattle.sum_sources.specs.inputs.{Stdin.stdin_after_taking}
+use Rattle.sum_sources.specs.sources.{StdinOrFile.is_stdin, WithStdin.parts_after_closing, WithStdin.TakesStdin}
+use Rattle.sum_sources.specs.sources.{WithStdin.answer_of_both, WithStdin.is_dash, Source.SourceState}
+use Rattle.sum_sources.specs.sources.{Source.state_with_opening, Source.names_of}
 use Rattle.sum_sources_tests.proofs.standard_input.visit.Goals as goal
 
 -- what was opened last is open
@@ -11,7 +16,7 @@ close_file-requires g c =
     is_open_last (answer_of_both g.S.Source.tells) _ _ _ _ _ c.in_ok-file.ensures.file c.in_ok-file.ensures.state refl
 
 -- standard input was opened and closed, or a file was
-closes : {I F : Type 0} (state : F → InputState) (p : Place I F) (name : List ℕ) (old mid new : StdinPlace I)
+closes : {I F : Type 0} (state : F → InputState) (p : StdinOrFile I F) (name : List ℕ) (old mid new : StdinValue I)
     (a m n : SourceState) → is_dash name ≡ is_stdin p
     → MatchBool (is_dash name) (TakesStdin old mid p × (m ≡ a)) ((mid ≡ old) × (m ≡ state_with_opening a name None))
     → (new, n) ≡ parts_after_closing state p mid m
@@ -32,5 +37,5 @@ pub returns : goal.returns
 returns g c =
     let file = c.in_ok-file in
     let name = ap (λ s. is_dash s.name) file.ensures.file in
-    closes g.S.File.Input.state file.file.place c.args.name.now _ _ _ _ _ _ (sym name ∙ file.file.named)
+    closes g.S.File.Input.state file.file.input c.args.name.now _ _ _ _ _ _ (sym name ∙ file.file.named)
     (grind (arith, file.ensures.parts)) c.close_file.ensures.parts

@@ -1,4 +1,5 @@
-use Rattle.std.{proofs.Common.◌-◌, proofs.Common.◌^◌, proofs.Common.◌≤◌, proofs.Common.vec_len, specs.declared.env.FillError.TheVariants.TooLong}
+use Rattle.std.{proofs.Common.◌-◌, proofs.Common.◌^◌, proofs.Common.◌≤◌, proofs.Common.vec_len}
+use Rattle.std.{specs.declared.env.FillError.TheVariants.TooLong}
 use Rattle.sum_words.specs.private.CommandLine.{Fails}
 use Rattle.sum_words.proofs.command_line.fill_growing.Given as goal
 

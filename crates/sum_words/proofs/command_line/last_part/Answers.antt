@@ -1,4 +1,5 @@
-use Rattle.std.proofs.{Common.◌∙◌, Common.◌≡◌, Common.◌+◌, Common.◌-◌, Common.sym, Common.drop, Common.arith, lemmas.List.drop-drop, lemmas.List.take_rest}
+use Rattle.std.proofs.{Common.◌∙◌, Common.◌≡◌, Common.◌+◌, Common.◌-◌, Common.sym, Common.drop, Common.arith}
+use Rattle.std.proofs.{lemmas.List.drop-drop, lemmas.List.take_rest}
 use Rattle.sum_words.proofs.CommandLineLemmas.{last_part-from}
 use Rattle.sum_words.proofs.command_line.last_part.Goals as goal
 

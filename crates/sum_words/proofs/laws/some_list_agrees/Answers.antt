@@ -2,4 +2,4 @@ use Rattle.sum_words.proofs.laws.some_list_agrees.Goals as goal
 
 -- a law of the trait
 pub returns : goal.returns
-returns g c = g.met.G.Arguments.has_list c.args.arguments.now
+returns g c = record { list = g.met.G.Arguments.has_list c.args.arguments.now }

@@ -1,5 +1,6 @@
 use Rattle.std.proofs.Common.{◌≡◌, ℕ, ◌+◌, ◌*◌, ◌≤◌, List, ◌++◌, length, take, ap, sym, ◌∙◌, arith, length-append}
-use Rattle.std.{proofs.lemmas.Grind.common_steps, proofs.lemmas.List.drop_at, proofs.lemmas.List.length-take-le, specs.Simd.first_chunks}
+use Rattle.std.{proofs.lemmas.Grind.common_steps, proofs.lemmas.List.drop_at, proofs.lemmas.List.length-take-le}
+use Rattle.std.{specs.Simd.first_chunks}
 use Rattle.blake2b_core.proofs.BlockLemmas.{are_blocks, first_chunks_take, hash_after-append}
 use Rattle.blake2b_core.proofs.incremental.Blake2b.absorb.Goals as goal
 

@@ -1,4 +1,5 @@
-use Rattle.std.proofs.{Common.◌≡◌, Common.◌+◌, Common.◌*◌, Common.length, Common.sym, Common.◌∙◌, Common.arith, Common.length-append, lemmas.Grind.common_steps}
+use Rattle.std.proofs.{Common.◌≡◌, Common.◌+◌, Common.◌*◌, Common.length, Common.sym, Common.◌∙◌, Common.arith}
+use Rattle.std.proofs.{Common.length-append, lemmas.Grind.common_steps}
 use Rattle.blake2b_core.proofs.BlockLemmas.{hash_after-append}
 use Rattle.blake2b_core.proofs.incremental.Blake2b.buffer_bytes.Goals as goal
 

@@ -1,5 +1,6 @@
 use Rattle.std.proofs.{Common.◌↔◌, Common.IsOk, Common.arith, lemmas.Grind.common_steps}
-use Rattle.digest_kinds.{proofs.DigitLemmas.IsOk-decoded, proofs.digest.Digest.from_hex.Goals.After-decode_to_slice, specs.Digest.IsDigits}
+use Rattle.digest_kinds.{proofs.DigitLemmas.IsOk-decoded, proofs.digest.Digest.from_hex.Goals.After-decode_to_slice}
+use Rattle.digest_kinds.{specs.Digest.IsDigits}
 use Rattle.digest_kinds.proofs.digest.Digest.from_hex.Goals as goal
 
 -- the text is decoded if and only if it is a digest's digits

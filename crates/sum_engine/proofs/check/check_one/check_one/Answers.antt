@@ -1,6 +1,10 @@
 use Rattle.std.proofs.Common.{refl, ◌≡◌, ap, ◌∙◌, Ok, Err, true}
-use Rattle.sum_engine.proofs.{CheckOneLemmas.check_opened, CheckOneLemmas.check_stops, CheckOneLemmas.not_read, CheckOneLemmas.not_asked, CheckOneLemmas.no_room, CheckOneLemmas.refused, OpenedNameLemmas.WasOpened, OpenedNameLemmas.was_opened}
-use Rattle.sum_engine.{proofs.OpenedNameLemmas.still_open, proofs.WorldLemmas.reads_one, proofs.check.check_one.check_one.Goals.After-close, specs.check.Rules.labels_of, specs.check.Rules.rules_of, specs.private.CheckOne.RunsManifest}
+use Rattle.sum_engine.proofs.{CheckOneLemmas.check_opened, CheckOneLemmas.check_stops, CheckOneLemmas.not_read}
+use Rattle.sum_engine.proofs.{CheckOneLemmas.not_asked, CheckOneLemmas.no_room, CheckOneLemmas.refused}
+use Rattle.sum_engine.proofs.{OpenedNameLemmas.WasOpened, OpenedNameLemmas.was_opened}
+use Rattle.sum_engine.{proofs.OpenedNameLemmas.still_open, proofs.WorldLemmas.reads_one}
+use Rattle.sum_engine.{proofs.check.check_one.check_one.Goals.After-close, specs.check.Rules.labels_of}
+use Rattle.sum_engine.{specs.check.Rules.rules_of, specs.private.CheckOne.RunsManifest}
 use Rattle.sum_sources.specs.{inputs.Input.InputState, sources.WithStdin.is_dash}
 use Rattle.sum_engine.proofs.check.check_one.check_one.Given as given
 use Rattle.sum_engine.proofs.check.check_one.check_one.Goals as goal
@@ -20,7 +24,7 @@ returns-in-Err-Memory-clause-ahead g c =
 pub returns-in-Err-Fault-clause-behavior : goal.returns-in-Err-Fault-clause-behavior
 returns-in-Err-Fault-clause-behavior g c =
     let failed = rw c.in-Err-Fault.field-0-is at c.in-Err-Fault.ensures.state in
-    let written = rw (c.in-Err-Fault.fault-is, c.shown_name-shown.ensures) at c.write_err.ensures in
+    let written = rw (c.in-Err-Fault.fault-is, c.shown_name-shown.ensures) at c.write_err.ensures.text in
     rw (← c.streams.view_is) (refused _ _ _ _ _ _ _ _ failed written)
 
 -- nothing was read of a manifest that could not be opened

@@ -9,20 +9,19 @@ use Rattle.sum_engine.proofs.check.checker.report_found.Goals as goal
 pub returns-in-Err-Fault : goal.returns-in-Err-Fault
 returns-in-Err-Fault g c =
     let is : c.args.found ≡ Err (Fault c.in-Err-Fault.fault) = search rules in
-    rw (is, ← c.labels.view_is) c.write_err.ensures
+    rw (is, ← c.labels.view_is) c.write_err.ensures.text
 
 -- no line was left
 pub returns-in-Ok-None : goal.returns-in-Ok-None
 returns-in-Ok-None g c =
     let is : c.args.found ≡ Ok None = search rules in
-    let whole = c.requires.whole is in
-    rw is (rw (c.rules-rules.ensures, c.counts.ensures.value, c.is_good.ensures, whole) at c.put_summary.ensures)
+    rw is (rw (c.is_good.ensures, c.rules-rules.ensures, c.counts-counts.ensures.value) at c.put_summary.ensures)
 
 -- a line was judged
 pub returns-in_default : goal.returns-in_default
 returns-in_default g c =
     let is : c.args.found ≡ Ok (Some c.in-Ok-Some.found) = search rules in
-    rw is (rw (c.rules-rules.ensures, c.name-name.ensures) at c.put_report.ensures)
+    rw is (rw (c.rules-rules.ensures, c.name-name.ensures.name) at c.put_report.ensures)
 
 -- an ignored line has no text on standard output
 none_out : (report : Report) (name : List ℕ) → out_by report Ignored name ≡ []

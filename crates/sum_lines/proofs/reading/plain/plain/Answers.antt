@@ -1,4 +1,5 @@
-use Rattle.std.proofs.{Common.◌+◌, Common.take, Common.drop, Common.sym, Common.arith, lemmas.List.take-append-drop, lemmas.List.take_rest, lemmas.List.length-take}
+use Rattle.std.proofs.{Common.◌+◌, Common.take, Common.drop, Common.sym, Common.arith, lemmas.List.take-append-drop}
+use Rattle.std.proofs.{lemmas.List.take_rest, lemmas.List.length-take}
 use Rattle.sum_lines.proofs.ScanLemmas.{plain_read, ends-after, front-ends, tail-place, two_digits}
 use Rattle.sum_lines.proofs.reading.plain.plain.Goals as goal
 

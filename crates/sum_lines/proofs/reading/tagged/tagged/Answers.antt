@@ -1,5 +1,7 @@
 use Rattle.std.proofs.{Common.sym, Common.arith, Common.length, Common.◌∙◌, lemmas.Bool.eqb-false}
-use Rattle.sum_lines.proofs.{PrefixLemmas.text, ScanLemmas.two_digits, ScanLemmas.decoded-digits, ScanLemmas.front-ends, ScanLemmas.name_place, ScanLemmas.tagged-none, ScanLemmas.tagged-read, TaggedLemmas.tag_in-some}
+use Rattle.sum_lines.proofs.{PrefixLemmas.text, ScanLemmas.two_digits, ScanLemmas.decoded-digits, ScanLemmas.front-ends}
+use Rattle.sum_lines.proofs.{ScanLemmas.name_place, ScanLemmas.tagged-none, ScanLemmas.tagged-read}
+use Rattle.sum_lines.proofs.{TaggedLemmas.tag_in-some}
 use Rattle.digest_kinds.specs.declared.algo.Algos.TheVariants.{One}
 use Rattle.sum_lines.proofs.reading.tagged.tagged.Goals as goal
 

@@ -1,4 +1,5 @@
-use Rattle.std.proofs.{Common.rules, lemmas.List.take_rest, lemmas.List.nil_from_length, lemmas.Result.err_from_is_err_and}
+use Rattle.std.proofs.{Common.rules, lemmas.List.take_rest, lemmas.List.nil_from_length}
+use Rattle.std.proofs.{lemmas.Result.err_from_is_err_and}
 use Rattle.sum_lines.proofs.OfferLemmas.{HasGiven-none, HasGiven-more, HasGiven-all, HasGiven-failed}
 use Rattle.sum_lines.proofs.sinks.sink.give_all.Goals as goal
 

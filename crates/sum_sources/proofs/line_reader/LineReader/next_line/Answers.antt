@@ -1,7 +1,11 @@
-use Rattle.std.proofs.{Common.ap, Common.arith, Common.◌≡◌, Common.length, Common.Some, Common.Err, lemmas.Grind.common_steps}
-use Rattle.sum_sources.{specs.declared.inputs.input.TheConstants.PIECE, proofs.ReadOnLemmas.counted, proofs.ReadOnLemmas.settled_again}
+use Rattle.std.proofs.{Common.ap, Common.arith, Common.◌≡◌, Common.length, Common.Some, Common.Err}
+use Rattle.std.proofs.{lemmas.Grind.common_steps}
+use Rattle.sum_sources.{specs.declared.inputs.input.TheConstants.PIECE, proofs.ReadOnLemmas.counted}
+use Rattle.sum_sources.{proofs.ReadOnLemmas.settled_again}
 use Rattle.sum_sources.specs.LineReader.{IsBounded, line_reader_view, final_answer_in, IsSoundReader}
-use Rattle.sum_sources.specs.declared.line_reader.{LineReader.TheInside.Inside, ReaderState.ReaderState, LineStop.TheVariants.Memory, ReaderState.TheVariants.Active, ReaderState.TheVariants.Done, ReaderState.TheVariants.Stopped}
+use Rattle.sum_sources.specs.declared.line_reader.{LineReader.TheInside.Inside, ReaderState.ReaderState}
+use Rattle.sum_sources.specs.declared.line_reader.{LineStop.TheVariants.Memory, ReaderState.TheVariants.Active}
+use Rattle.sum_sources.specs.declared.line_reader.{ReaderState.TheVariants.Done, ReaderState.TheVariants.Stopped}
 use Rattle.sum_sources.proofs.line_reader.LineReader.next_line.Goals as goal
 
 -- the end is returned again
@@ -16,7 +20,7 @@ returns-in-Stopped-clause-line g c = settled_again _ _ (rw (← c.self.view_is) 
 pub returns-in-Ok-Line-clause-line : goal.returns-in-Ok-Line-clause-line
 returns-in-Ok-Line-clause-line g c = λ reading.
     let read = c.read_on-result.ensures.line reading in
-    counted {new = line_reader_view c.self-2.inside} _ (rw (c.drop_return.ensures, c.self-2.view_is) read)
+    counted {new = line_reader_view c.self-2.inside} _ (rw c.self-2.view_is read)
 
 -- memory was refused
 is_stopped : (state : ReaderState) → final_answer_in state ≡ Some (Err Memory) → state ≡ Stopped Memory

@@ -1,10 +1,13 @@
-use Rattle.std.proofs.Common.{◌≡◌, ◌^◌, ◌-◌, ◌+◌, None, length}
-use Rattle.sum_sources.{proofs.ReadOnLemmas.HasRead, specs.LineReader.consumed_count, specs.LineReader.IsReading, specs.ManifestLines.HasNoNewline, specs.inputs.Input.IsSameInput}
+use Rattle.digest_kinds.specs.Bytes.{LIMIT}
+use Rattle.std.proofs.Common.{◌≡◌, ◌-◌, ◌+◌, None, length}
+use Rattle.sum_sources.{proofs.ReadOnLemmas.HasRead, specs.LineReader.consumed_count, specs.LineReader.IsReading}
+use Rattle.sum_sources.{specs.inputs.Input.IsSameInput}
+use Rattle.sum_sources.specs.LineReader.{HasNoNewline}
 use Rattle.sum_sources.proofs.line_reader.LineReader.read_on.Given as goal
 
 -- the line so far, and what stays
-abbrev pub invariant-loop-self : goal.invariant-loop-self
-invariant-loop-self g l = record {
+abbrev pub invariant-loop-line : goal.invariant-loop-line
+invariant-loop-line g l = record {
   read : IsReading g.I.Input.state l.fn.self → HasRead g.I.Input.state l.fn.self l.self l.line.items;
   going : l.self.final_answer ≡ None;
   sum : consumed_count l.self ≡ consumed_count l.fn.self + length l.line.items;
@@ -17,5 +20,5 @@ invariant-loop-self g l = record {
 }
 
 -- the bytes that may still come
-abbrev pub decreases-loop-self : goal.decreases-loop-self
-decreases-loop-self g l = 2 ^ 61 - l.self.taken
+abbrev pub decreases-loop-line : goal.decreases-loop-line
+decreases-loop-line g l = LIMIT - l.self.taken

@@ -5,7 +5,7 @@ use Rattle.sum_words.proofs.messages.fault_lines.put_lines.Goals as goal
 pub returns : goal.returns
 returns g c = λ f text. rw (
   ← text,
-  ← c.name.ensures,
+  ← c.name.ensures.name,
   ← c.as_bytes.ensures.value,
   ← c.as_bytes-2.ensures.value,
   ← c.as_bytes-3.ensures.value,

@@ -1,5 +1,7 @@
-use Rattle.std.{proofs.Common.◌≡◌, proofs.Common.◌==◌, proofs.Common.◌&&◌, proofs.Common.List, proofs.Common.drop, proofs.Common.filter, specs.List.starts_with, specs.List.cons_option}
-use Rattle.sum_words.specs.{declared.parsing.options.Flag.Flag, parsing.Options.full_name, parsing.Options.has_option, parsing.Options.only_or_fault}
+use Rattle.std.{proofs.Common.◌≡◌, proofs.Common.◌==◌, proofs.Common.◌&&◌, proofs.Common.List, proofs.Common.drop}
+use Rattle.std.{proofs.Common.filter, specs.List.starts_with, specs.List.cons_option}
+use Rattle.sum_words.specs.{declared.parsing.options.Flag.Flag, parsing.Options.full_name, parsing.Options.has_option}
+use Rattle.sum_words.specs.{parsing.Options.only_or_fault}
 use Rattle.sum_words.proofs.parsing.options.only_begun.Given as goal
 
 -- the option found so far and the remaining ones give the same as all

@@ -1,5 +1,6 @@
 use Rattle.std.proofs.Common.{◌≡◌, length}
-use Rattle.sum_words.specs.{parsing.Items.a_word, parsing.Items.items_from, parsing.Request.early_request, private.Request.IsChosenBy}
+use Rattle.sum_words.specs.{parsing.Items.a_word, parsing.Items.items_from, parsing.Request.early_request}
+use Rattle.sum_words.specs.{private.Request.IsChosenBy}
 use Rattle.sum_words.proofs.parsing.request.read_options.Given as goal
 
 -- the options chosen so far and those of the remaining items are those of all items

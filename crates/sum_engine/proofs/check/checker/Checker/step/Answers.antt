@@ -1,5 +1,6 @@
 use Rattle.std.proofs.Common.{refl}
-use Rattle.sum_engine.proofs.{StepLemmas.step_taken, check.checker.Checker.step.Goals.in-Ok-Going, check.checker.Checker.step.Goals.in-Ok-Ended, check.checker.Checker.step.Goals.in-Err}
+use Rattle.sum_engine.proofs.{StepLemmas.step_taken, check.checker.Checker.step.Goals.in-Ok-Going}
+use Rattle.sum_engine.proofs.{check.checker.Checker.step.Goals.in-Ok-Ended, check.checker.Checker.step.Goals.in-Err}
 use Rattle.sum_engine.proofs.check.checker.Checker.step.Goals as goal
 
 -- a line or the end was found, and reported; or a stop was found

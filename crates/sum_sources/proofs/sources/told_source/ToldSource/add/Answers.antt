@@ -1,12 +1,15 @@
-use Rattle.std.{proofs.Common.rules, proofs.Common.◌≡◌, proofs.Common.◌∷◌, proofs.Common.◌++◌, proofs.Common.[], proofs.Common.Some, proofs.Common.map, proofs.lemmas.List.map-append, specs.Result.is_ok}
-use Rattle.sum_sources.{proofs.GaveLemmas.true_or_false, proofs.ToldSourceLemmas.adding_gives, specs.sources.Source.Pair, specs.sources.StoredPair.state_with_pairs, specs.sources.StoredPair.pair_view, specs.sources.StoredPair.answer_view}
+use Rattle.std.{proofs.Common.rules, proofs.Common.◌≡◌, proofs.Common.◌∷◌, proofs.Common.◌++◌, proofs.Common.[]}
+use Rattle.std.{proofs.Common.Some, proofs.Common.map, proofs.lemmas.List.map-append, specs.Result.is_ok}
+use Rattle.sum_sources.{proofs.GaveLemmas.true_or_false, proofs.ToldSourceLemmas.adding_gives}
+use Rattle.sum_sources.{specs.sources.Source.ToldAnswer, specs.sources.StoredAnswer.state_with_pairs}
+use Rattle.sum_sources.{specs.sources.StoredAnswer.pair_view, specs.sources.StoredAnswer.answer_view}
 use Rattle.sum_sources.proofs.sources.told_source.ToldSource.add.Goals as goal
 
 -- the pair answers from the next opening of its name on
 pub invariant_of-self-clause-gives : goal.invariant_of-self-clause-gives
 invariant_of-self-clause-gives g c =
     let s = c.args.self.now in
-    let p : Pair = record {
+    let p : ToldAnswer = record {
       name = c.in_ok-name.name.items;
       from = c.times-from.result;
       answer = Some (answer_view c.args.answer);

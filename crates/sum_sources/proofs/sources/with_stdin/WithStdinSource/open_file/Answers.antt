@@ -1,5 +1,8 @@
-use Rattle.std.proofs.{Common.◌∙◌, Common.refl, Common.sym, Common.ap, Math.Logic.∥∥₁_elim, Math.Logic.∥∥₁_map, Props.props}
-use Rattle.sum_sources.{proofs.WithStdinLemmas.kept_opening, proofs.WithStdinLemmas.kept_stdin, proofs.WithStdinLemmas.stdin_opened, proofs.WithStdinLemmas.file_opened, specs.sources.Place.place_state}
+use Rattle.std.proofs.{Common.◌∙◌, Common.refl, Common.sym, Common.ap, Math.Logic.∥∥₁_elim, Math.Logic.∥∥₁_map}
+use Rattle.std.proofs.{Props.props}
+use Rattle.sum_sources.{proofs.WithStdinLemmas.kept_opening, proofs.WithStdinLemmas.kept_stdin}
+use Rattle.sum_sources.{proofs.WithStdinLemmas.stdin_opened, proofs.WithStdinLemmas.file_opened}
+use Rattle.sum_sources.{specs.sources.StdinOrFile.stdin_or_file_state}
 use Rattle.sum_sources.proofs.sources.with_stdin.WithStdinSource.open_file.Goals as goal
 
 -- ---- `-`
@@ -11,13 +14,13 @@ returns-then-is_dash-clause-parts g c =
 
 pub invariant_of-self : goal.invariant_of-self
 invariant_of-self g c = record {
-  is = rw c.and-self.ensures (∥∥₁_map c.args.self.now.is (λ kept.
+  is = rw c.with_note-self.ensures (∥∥₁_map c.args.self.now.is (λ kept.
       kept_stdin kept c.args.name.now _ (sym c.is_dash.ensures ∙ c.if-is_dash.true) c.take.ensures.taken));
 }
 
 pub returns-then-is_dash-clause-file : goal.returns-then-is_dash-clause-file
 returns-then-is_dash-clause-file g c = ∥∥₁_elim c.args.self.now.is (hlevel props) (λ kept.
-    ap (place_state g.I.Input.state g.S.File.Input.state) c.from_stdin-opened.ensures ∙ rw c.next_file.ensures
+    ap (stdin_or_file_state g.I.Input.state g.S.File.Input.state) c.from_stdin-opened.ensures ∙ rw c.next_file.ensures
     (stdin_opened g.S.Source.tells c.args.self.now.log
     (g.S.Source.state c.args.self.now.source) kept c.args.name.now c.take.result
     (sym c.is_dash.ensures ∙ c.if-is_dash.true) c.take.ensures.given c.take.ensures.unread))
@@ -26,13 +29,13 @@ returns-then-is_dash-clause-file g c = ∥∥₁_elim c.args.self.now.is (hlevel
 
 pub invariant_of-self-in-Ok : goal.invariant_of-self-in-Ok
 invariant_of-self-in-Ok g c = record {
-  is = rw (c.and-self-in-Ok.ensures, c.in-Ok.ensures.state) (∥∥₁_map c.args.self.now.is (λ kept.
+  is = rw (c.with_note-self-in-Ok.ensures, c.in-Ok.ensures.state) (∥∥₁_map c.args.self.now.is (λ kept.
       kept_opening kept c.args.name.now _ (sym c.is_dash.ensures ∙ c.if-is_dash.false)));
 }
 
 pub invariant_of-self-in-Err-Fault : goal.invariant_of-self-in-Err-Fault
 invariant_of-self-in-Err-Fault g c = record {
-  is = rw (c.and-self-in-Err-Fault.ensures, rw c.in-Err-Fault.field-0-is at c.in-Err-Fault.ensures.state)
+  is = rw (c.with_note-self-in-Err-Fault.ensures, rw c.in-Err-Fault.field-0-is at c.in-Err-Fault.ensures.state)
       (∥∥₁_map c.args.self.now.is (λ kept.
       kept_opening kept c.args.name.now _ (sym c.is_dash.ensures ∙ c.if-is_dash.false)));
 }

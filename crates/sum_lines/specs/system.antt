@@ -1,0 +1,2 @@
+-- What calls the system.
+pub mod FromWrite

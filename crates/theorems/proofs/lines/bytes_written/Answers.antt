@@ -1,0 +1,5 @@
+use Rattle.theorems.proofs.WriteLemmas.{writes}
+use Rattle.theorems.proofs.lines.bytes_written.Goals as goal
+
+pub returns : goal.returns
+returns g c = writes _ _ _ _ c.put_all.ensures.text

@@ -1,0 +1,4 @@
+pub mod Writes
+pub mod WritesTexts
+pub mod StopsBeforeStep
+pub mod CommandWrites
