@@ -8,9 +8,10 @@ import resolved
 from definitions import origins_in
 
 # What the kit adds by itself to what a definition says: types, the cases that a pattern stands for,
-# and that records are equal.
+# that records are equal, and `tt`, which no file imports.
 ADDED = re.compile(
-    r"Prim\.(?:Id|J|refl|Unit|⊥|¬◌|Native\.Nat\.ℕ|Native\.String\.String)"
+    r"Prim\.(?:Id|J|refl|tt|Unit|⊥|¬◌|Native\.Nat\.ℕ|Native\.String\.String)"
+    r"|Rattle-core-specs\.Bool\.⊤"
     r"|mathlib\.Core\.(?:Bool\.(?:Bool|true|false)|List\.Defs\.(?:List|\[\]|◌∷◌|List\.\w+))"
     r"|lib\.IntN\.(?:ℤ|negsuc)|mir\.Syntax\.Width|denote\.Struct\.Field\.bool-field"
     r"|Rattle-\w+-specs\.declared\.(?:[\w.]+\.TheVariants\.\w+|[\w.]+\.Ghosts)"
