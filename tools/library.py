@@ -108,9 +108,14 @@ def clause_lines(item):
     return [clause_line(clause) for clause in clauses_shown(item)]
 
 
+def is_hidden(item):
+    """Returns whether an item is public only for the crates here."""
+    return "doc ( hidden )" in item.attributes
+
+
 def calls_of(block):
-    """Returns the functions of an `impl` or a trait."""
-    return [member for member in block.members if member.kind == "fn"]
+    """Returns the functions of an `impl` or a trait that aren't hidden."""
+    return [member for member in block.members if member.kind == "fn" and not is_hidden(member)]
 
 
 def function_lines(item, where=""):
@@ -135,7 +140,7 @@ class Library:
 
     def __init__(self):
         self.code = code()
-        self.items = [item for item in self.code.items if "doc ( hidden )" not in item.attributes]
+        self.items = [item for item in self.code.items if not is_hidden(item)]
         self.lines = {}
         for crate, file, path in compiled.read_files():
             lines = [as_in_a_source(line) for line in text_of(path).splitlines()]
