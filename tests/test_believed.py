@@ -5,6 +5,7 @@ import re
 
 import claims
 from believed import PLANS, Page, file_of, is_item, needs, printed, text_of_thing, unexplained
+from definitions import origins_in
 from harness import Case
 from sources import text_of
 
@@ -62,16 +63,28 @@ class Believed(Case):
         self.assertEqual(early, {"reason_table", "blake2b", "row_of", "iv", "sigma"})
 
     def test_chapters(self):
-        """What only `command`, `program` and `main` reach is in chapters of its own, and what `run`
-        reaches of a file of definitions is in one chapter, but for tables."""
+        """What only `command`, `program` and `main` reach is in chapters of its own, and a file of
+        definitions is in one chapter, but for tables."""
         of_files = {}
         for thing, mark in printed().items():
             if mark != "law":
                 (chapter,) = chapters_of(text_of_thing(thing))
                 self.assertIn(chapter, OF_RUN if mark == "run" else OF_OTHERS, thing.name)
-                if mark == "run" and not is_item(thing) and thing.name not in TABLES:
+                if not is_item(thing) and thing.name not in TABLES:
                     of_files.setdefault(file_of(thing), set()).add(chapter)
         self.assertEqual({file for file, numbers in of_files.items() if len(numbers) > 1}, set())
+
+    def test_variants(self):
+        """A variant of a `data` stands behind its type's name, so that no parameter looks like it:
+        no definition has the variants of its file, or imports one."""
+        types = [thing for thing in printed() if not is_item(thing) and thing.constructors]
+        owned = {f"{one.module.checked}.{name}" for one in types for name in one.constructors}
+        self.assertNotEqual(owned, set())
+        for thing in printed().keys() - claims.computed().keys() - {*types}:
+            if not is_item(thing):
+                found = {f"{thing.module.checked}.{token.text}" for token in thing.tokens}
+                found |= {claims.specs().end_of(*origin) for origin in origins_in(thing).values()}
+                self.assertEqual(found & owned, set(), thing.name)
 
     def test_what_no_plan_has(self):
         """A thing that belongs to no chapter is an error, and so is a path without a thing."""

@@ -6,6 +6,8 @@ import collections
 import glob
 import os
 import re
+from types import SimpleNamespace as Made
+from unittest import mock
 
 from claims import code
 from compiled import (
@@ -213,3 +215,37 @@ class Border(Case):
             for module in re.findall(USE, code_of(path)):
                 self.assertRegex(module, WORDS, path)
             self.assertNotRegex(re.sub(USE, "", code_of(path)), ELSEWHERE, path)
+
+
+class WaysAround(Case):
+    """Ways around the contracts: what the kit would read or compile of each, and the word by which
+    a test of the border refuses it."""
+
+    of_the_repository = True
+
+    def assert_refused(self, word, test):
+        """Fails unless a test of the border does, and has the word."""
+        with self.assertRaises(AssertionError) as raised:
+            getattr(Border, test)(Border(test))
+        self.assertIn(word, str(raised.exception))
+
+    def test_a_type_that_looks_like_a_call(self):
+        """`last`, between a buffer and its sink, is taken for a function of the kit's."""
+        symbol = "sum_lines::sinks::last::last"
+        last = Made(name="last", kind="struct", symbol=symbol)
+        with mock.patch.object(code(), "called", [*code().called, last]):
+            self.assert_refused(symbol, "test_letters")
+        with mock.patch.object(code(), "items", [*code().items, last]):
+            self.assert_refused("names: new: last", "test_rows")
+
+    def test_a_module_that_looks_like_one_of_the_kit(self):
+        """`str::from_utf8` is ours, and gives another name."""
+        with mock.patch.object(code().files[0], "modules", ["str"]):
+            self.assert_refused("'str'", "test_names_of_crates")
+
+    def test_a_read_that_no_log_has(self):
+        """A function reads, and puts the log of before back."""
+        begin = "sum_sources::system::from_read::FromRead::begin"
+        reading = "sum_sources::system::from_read::read_uninterrupted"
+        with mock.patch.dict(ours(), {begin: Made(name=begin, named=[reading], block="")}):
+            self.assert_refused(f"calls {begin}: new: the row; {reading}", "test_rows")

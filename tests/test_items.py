@@ -1,9 +1,14 @@
 """The items of the code, which `tools/items.py` cuts out of the sources: nothing is shown that the
 kit hasn't read."""
 
-from claims import code
+from unittest import mock
+
+from claims import code, shown
+from compiled import library
 from harness import Case
 from items import Source
+from rattle import File
+from sources import text_of
 
 
 def named(path):
@@ -51,6 +56,22 @@ class Items(Case):
         source = Source(self.path("some.rt").decode())
         source.gaps.append((text.index(" {"), text.index("}") + 1))
         self.assertEqual(source.text_in(0, text.index("\n\n")), ["pub fn a()"])
+
+    def test_a_function_that_a_trait_gets(self):
+        """It is shown with its contract, also if it has a body in the trait, so that an `impl` may
+        leave it out."""
+        path, place = "crates/sum_sources/src/inputs/input.rt", "    ghost has_content: "
+        contract = "\n        ensures { state self.new ≡ state self.old }"
+        read = text_of(library("sum_sources"), "lang/src/inputs/input.rt")
+        for name, text, function in (
+            (path, text_of(path), f"    fn start(&mut self){contract}\n    {{}}\n"),
+            ("read.rt", read, f"fn start ( & mut self ){contract} {{ }}\n"),
+        ):
+            self.write(name, text.replace(place, f"{function}{place}"))
+        with mock.patch("rattle.TOP", self.folder):
+            file = File("sum_sources", "inputs/input.rt", self.path("read.rt").decode())
+        (trait,) = [item for item in file.items if item.kind == "trait"]
+        self.assertIn(f"    fn start(&mut self){contract}", shown(trait))
 
     def test_another_token(self):
         """One that the kit hasn't read is refused: in a clause, a head, a type and a constant."""

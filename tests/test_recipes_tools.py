@@ -7,8 +7,16 @@ import shutil
 
 import harness
 from harness import as_bytes
-from recipes import IMAGE, Typed, line_of
+from recipes import IMAGE, Row, Rows, Typed, line_of
 from texts import failed, ok
+
+BY_PV = {"write by pv", "check by pv"}
+# A file that can't be read, or only in part.
+ROWS = {
+    "missing": Row("rm image.iso", BY_PV),
+    "a directory": Row("rm image.iso; mkdir image.iso", BY_PV),
+    "a memory whose reads fail": Row("ln -sf /proc/$PPID/mem image.iso", BY_PV),
+}
 
 
 class Signed(Typed):
@@ -137,33 +145,21 @@ class Signed(Typed):
                     self.assertEqual(self.type(recipe, shell).status, status)
 
 
-class Shown(Typed):
-    def test_pv(self):
-        """A file that can't be read, or only in part: it is missing, a directory, or a memory whose
-        reads fail."""
+class Shown(Rows):
+    def setUp(self):
+        super().setUp()
         if shutil.which("pv") is None:
             self.skipTest("pv isn't installed")
-        self.make(good=False)
-        self.put("image.iso", IMAGE)
-        for recipe, _, shell in self.each_recipe("write by pv", "check by pv"):
+        self.restore("pv")
+
+    def lists(self, recipe, sort):
+        """Returns the list of what is read of such a file, which is nothing."""
+        return {"image.sum": line_of("sha256sum", b"image.iso", b"")}
+
+    def test_pv(self):
+        self.make()
+        for recipe, _, shell in self.each_recipe(*BY_PV):
             with self.subTest(recipe=recipe):
                 self.assertEqual(self.type(recipe, shell).status, 0)
         self.expect_lines("image.sum", [line_of("sha256sum", b"image.iso", IMAGE)])
-        for change in (
-            "rm image.iso",
-            "mkdir image.iso",
-            f"rmdir image.iso; ln -s /proc/{os.getpid()}/mem image.iso",
-        ):
-            self.run_command(["sh", "-c", change], cwd=self.path("here"))
-            for recipe, sort, shell in self.each_recipe("write by pv", "check by pv"):
-                with self.subTest(recipe=recipe):
-                    self.put(
-                        "image.sum",
-                        line_of("sha256sum", b"image.iso", b"")
-                        if sort == "check by pv"
-                        else "of before",
-                    )
-                    self.fails(recipe, shell)
-                    self.assertEqual(
-                        self.read("here/image.sum") == b"of before", sort == "write by pv"
-                    )
+        self.try_rows(ROWS)

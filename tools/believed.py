@@ -207,14 +207,6 @@ class Page:
             notes.append(f"explained only below, in chapter {chapter}: {', '.join(names)}")
         return "\n".join(f"{'//' if is_item(things[0]) else '--'} {note}" for note in notes)
 
-    def head(self, things):
-        """Returns what a file says of itself, and where the rest of it is, if it isn't all here."""
-        says = " ".join(line.removeprefix("--").strip() for line in things[0].module.head)
-        of_file = [thing for thing in self.chapters if file_of(thing) == file_of(things[0])]
-        others = {self.chapters[thing] for thing in of_file} - {self.chapters[things[0]]}
-        numbers = " and ".join(map(str, sorted(others)))
-        return says + (f" The rest: chapter{'s' * (len(others) > 1)} {numbers}." if others else "")
-
     def chapter(self, things):
         """Yields the paragraphs of a line of the plan: the kit's words that are new in it, and its
         things."""
@@ -233,9 +225,8 @@ class Page:
                 if is_code:
                     texts_of_code += [f"//// {file}", *texts]
                 else:
-                    yield from filter(
-                        None, [f"### {file}", self.head(of_file), block("text", texts)]
-                    )
+                    head = " ".join(line.removeprefix("-- ") for line in of_file[0].module.head)
+                    yield from filter(None, [f"### {file}", head, block("text", texts)])
             if texts_of_code:
                 yield block("rust", texts_of_code)
 

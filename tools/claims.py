@@ -33,16 +33,9 @@ COMPUTED = {"parse_line": "parse_is_grammar", "form_of": "one_form"}
 Claim = collections.namedtuple("Claim", "mark items reached apart")
 
 
-@functools.lru_cache(maxsize=None)
-def code():
-    """Returns the items of the code, read once."""
-    return Code()
-
-
-@functools.lru_cache(maxsize=None)
-def specs():
-    """Returns the definitions, read once."""
-    return Specs()
+# The items of the code, and the definitions, each read once.
+code = functools.lru_cache(maxsize=None)(Code)
+specs = functools.lru_cache(maxsize=None)(Specs)
 
 
 def ends_in(items):

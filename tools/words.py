@@ -22,8 +22,6 @@ ADDED_TO_CONTRACTS = re.compile(
     r"|mathlib\.Core\.(?:Path\.(?:refl|◌≡◌)|Logic\.(?:◌⊎◌|inl|inr))"
     r"|Rattle-\w+-specs\.(?:contracts|declared)\..*"
 )
-# The names that definitions bind, or that fields have, though their files also import them.
-BOUND = {"form", "good", "line", "lines"}
 # A module of definitions of a crate.
 OF_A_CRATE = re.compile(r"Rattle-(\w+)-specs\.(.*)")
 
@@ -49,7 +47,7 @@ def misread(specs, name, words, ends):
     found = specs.of_ends(ends)
     for word, end in sorted(words):
         if resolved.is_of_ours(end):
-            is_found = specs.of_end(end) in {*found, None} or word in BOUND
+            is_found = specs.of_end(end) in {*found, None}
         else:
             is_found = {end, resolved.TYPES.get(end)} & ends
         if not is_found:

@@ -272,14 +272,15 @@ class Rows(Typed):
         raise NotImplementedError
 
     def make_row(self, row, recipe, sort):
-        """Makes the tree of a row for a recipe. What this makes is there from before."""
+        """Makes the tree of a row for a recipe. What this makes is there from before, and anybody
+        may write to it."""
         self.make()
         for name, content in self.lists(recipe, sort).items():
             self.put(name, content)
         name = MADE.get(sort) or LIST.search(recipe)[0]
         if sort in MADE:
             self.put(name, "of before")
-        change = f"chmod 777 .; list={name}; {self.LINE}; {row.change}"
+        change = f"chmod -R a+rwX .; list={name}; {self.LINE}; {row.change}"
         changed = self.run_command(["sh", "-c", change], cwd=self.path("here"))
         self.assertEqual((changed.status, changed.err), (0, b""))
 

@@ -44,9 +44,9 @@ infixl 55 ◌⋙◌
 abbrev pub ◌⋙◌ : ℕ → ℕ → ℕ
 x ⋙ k = rotate_right w64 x k
 
--- the mixing function G (3.1), which mixes the words x and y into the vector at the places a, b, c and d
+-- the mixing function G (3.1). Each line is one of the RFC's, and sets the word of the vector v at a, b, c or d
 unfoldable pub mix : List ℕ → ℕ → ℕ → ℕ → ℕ → ℕ → ℕ → List ℕ
-mix vector a b c d x y = let v = slice_set vector a (vector ! a ⊞ vector ! b ⊞ x) in
+mix v a b c d x y = let v = slice_set v a (v ! a ⊞ v ! b ⊞ x) in
     let v = slice_set v d ((v ! d ⊻ v ! a) ⋙ 32) in
     let v = slice_set v c (v ! c ⊞ v ! d) in
     let v = slice_set v b ((v ! b ⊻ v ! c) ⋙ 24) in

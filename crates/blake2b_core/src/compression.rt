@@ -115,7 +115,7 @@ pub(crate) fn advance(h: &mut [u64; 8], block: &[u8; 128], t: u128, last: bool)
 /// Computes the compression function F (RFC 7693, 3.2): the state after `block`, from the state `h` before it. `t` is
 /// the number of message bytes up to the end of this block, and `last` says whether it is the last.
 pub fn compress(h: &[u64; 8], block: &[u8; 128], t: u128, last: bool) -> [u64; 8]
-    ensures { result ≡ compress h.now block.now t last }
+    ensures state { result ≡ compress h.now block.now t last }
 {
     let mut next = *h;
     advance(&mut next, block, t, last);

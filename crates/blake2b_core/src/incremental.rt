@@ -23,7 +23,7 @@ pub struct MessageTooLong;
 impl MessageTooLong {
     /// Fails if and only if a message of `taken` bytes and then the piece would have [`LIMIT`] bytes or more.
     pub fn check(taken: u64, piece: &[u8]) -> Result<(), MessageTooLong>
-        ensures { IsOk result ↔ (taken + length piece.now < LIMIT) }
+        ensures fits { IsOk result ↔ (taken + length piece.now < LIMIT) }
     {
         if piece.len() as u64 >= LIMIT.saturating_sub(taken) {
             return Err(MessageTooLong);
@@ -71,14 +71,14 @@ impl Blake2b {
 
     /// Returns the digest's length in bytes, 1 to 64.
     pub fn len(&self) -> usize
-        ensures { result ≡ digest_len self.now }
+        ensures len { result ≡ digest_len self.now }
     {
         self.len
     }
 
     /// Returns the length of the message so far, in bytes.
     pub fn taken(&self) -> u64
-        ensures { result ≡ taken_count self.now }
+        ensures taken { result ≡ taken_count self.now }
     {
         self.taken
     }

@@ -5,5 +5,5 @@ ghost use Rattle.blake2b_core.specs.Laws.{HasVectors};
 /// those that GNU b2sum and Python's hashlib compute.
 #[tactic(auto, unfolding(crate::specs::Compression::mix, crate::specs::Compression::round, crate::specs::Compression::work_vector, crate::specs::Compression::compress, crate::specs::Digest::hash_after, crate::specs::Digest::blake2b))]
 pub fn vectors()
-    ensures { HasVectors }
+    ensures digests { HasVectors }
 {}

@@ -10,7 +10,7 @@ abbrev pub kind_text : KindValue → ByteString
 kind_text kind = tag_of kind.algo
     ++ (if kind.len == full_len_of kind.algo then [] else codes "-" ++ decimal (8 * kind.len))
 
--- this width may follow a kind's tag: nothing for the full length, or `-` and the length in bits, 8 to 512, for BLAKE2b
+-- a kind's width follows its tag: nothing if the digest is full, or, of BLAKE2b alone, `-` and its bits, as in `-256`
 abbrev pub IsWidth : KindValue → ByteString → Type 0
 IsWidth kind width = ((width ≡ []) × (kind.len ≡ full_len_of kind.algo))
     ⊎ ((width ≡ codes "-" ++ decimal (8 * kind.len)) × (kind.algo ≡ Blake2b) × IsTrue (has_len Blake2b kind.len))

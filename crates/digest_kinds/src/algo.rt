@@ -72,7 +72,7 @@ impl Algo {
 
     /// Returns the tag, by which a tagged line names the algorithm.
     pub fn tag(self) -> &'static str
-        ensures { result.now ≡ tag_of self }
+        ensures tag { result.now ≡ tag_of self }
     {
         self.facts().0
     }

@@ -71,7 +71,7 @@ impl Digest {
 
     /// Returns whether the two digests have the same bytes.
     pub fn same(&self, other: &Digest) -> bool
-        ensures { IsTrue result ↔ (self.now ≡ other.now) }
+        ensures same_bytes { IsTrue result ↔ (self.now ≡ other.now) }
     {
         self == other
     }

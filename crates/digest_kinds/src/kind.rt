@@ -45,7 +45,7 @@ impl Model for Kind {
 impl Kind {
     /// Returns the algorithm with its full digest.
     pub fn of(algo: Algo) -> Kind
-        ensures { result ≡ full_kind algo }
+        ensures kind { result ≡ full_kind algo }
     {
         Kind {
             algo,
@@ -56,7 +56,7 @@ impl Kind {
     /// Returns BLAKE2b with a digest of this many bits (RFC 7693, 2.1); 0 means the full 512. Fails with `TooLong`
     /// above 512, and otherwise with `NotBytes` if the number isn't a multiple of 8.
     pub fn blake2b_bits(bits: u64) -> Result<Kind, LengthFault>
-        ensures { result ≡ blake2b_of_bits bits }
+        ensures kind { result ≡ blake2b_of_bits bits }
     {
         if bits > 512 {
             return Err(LengthFault::TooLong);
@@ -94,7 +94,7 @@ impl Kind {
 
     /// Returns the algorithm.
     pub fn algo(self) -> Algo
-        ensures { result ≡ self.algo }
+        ensures algo { result ≡ self.algo }
     {
         self.algo
     }
@@ -102,7 +102,7 @@ impl Kind {
     /// Computes the digest of a message, which must have fewer than [`LIMIT`](crate::LIMIT) bytes.
     pub fn digest(self, message: &[u8]) -> Digest
         requires { length message.now < LIMIT }
-        ensures { result ≡ message_digest self message.now }
+        ensures digest { result ≡ message_digest self message.now }
     {
         let mut hasher = AnyHasher::new(self);
         hasher.update(message);
@@ -111,14 +111,14 @@ impl Kind {
 
     /// Returns the algorithm's tag, by which a tagged line names it.
     pub fn tag(self) -> &'static str
-        ensures { result.now ≡ tag_of self.algo }
+        ensures tag { result.now ≡ tag_of self.algo }
     {
         self.algo.tag()
     }
 
     /// Returns the number of bits of the digest.
     pub fn bits(self) -> u64
-        ensures { result ≡ 8 * self.len }
+        ensures bits { result ≡ 8 * self.len }
     {
         8 * self.len as u64
     }

@@ -30,7 +30,7 @@ impl Kind {
     /// and its bits, as in `BLAKE2b-256`. It may be in `buffer`, whose previous content doesn't matter.
     #[tactic(auto, using(crate::proofs::KindTextLemmas::length_bits))]
     pub fn text_into(self, buffer: &mut [u8; LONGEST_KIND_TEXT]) -> &str
-        ensures { result.now ≡ kind_text self }
+        ensures text { result.now ≡ kind_text self }
     {
         if self.len() == self.algo().full_len() {
             return self.tag();
@@ -47,7 +47,7 @@ impl Kind {
     /// digest follows the `-`.
     pub fn of_tag_prefix(algo: Algo, bytes: &[u8]) -> Option<KindPrefix<'_>>
         requires { BeginsWithTag bytes.now algo }
-        ensures { option_map (λ w. (w.kind, w.rest.now)) result
+        ensures prefix { option_map (λ w. (w.kind, w.rest.now)) result
             ≡ kind_and_rest algo (drop (length (tag_of algo)) bytes.now) }
     {
         let rest = &bytes[algo.tag().len()..];

@@ -6,11 +6,11 @@ ghost use Rattle.std.specs.Prelude.{◌≡◌, IsTrue};
 
 /// No algorithm's tag is a prefix of another's.
 pub fn tags_apart()
-    ensures { (a b : Algo) → BeginsWithTag (tag_of b) a → a ≡ b }
+    ensures tags { (a b : Algo) → BeginsWithTag (tag_of b) a → a ≡ b }
 {}
 
 /// The text of each kind that has digests names that kind.
 pub fn texts_name_kinds()
-    ensures { (kind : KindValue) → IsTrue (has_len kind.algo kind.len)
+    ensures text { (kind : KindValue) → IsTrue (has_len kind.algo kind.len)
         → NamesKind (kind_text kind) kind }
 {}

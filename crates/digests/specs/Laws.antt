@@ -98,10 +98,10 @@ check_words settings manifest =
     map (λ flag. codes "--" ++ full_name flag) (check_options settings) ++ codes "--" ∷ manifest ∷ []
 
 -- a run ends with status 0, and writes `NAME: OK` for each name, if the report setting shows that, and nothing else
-pub record ReportsAllOk (report : Report) (run : Behavior) (names : List ByteString) : Type 0 where
-  pub status : status_of run.good ≡ 0
-  pub out : out_text run ≡ flat_map (out_by report Right) names
-  pub err : err_text run ≡ []
+pub record ReportsAllOk (report : Report) (behavior : Behavior) (names : List ByteString) : Type 0 where
+  pub status : status_of behavior.good ≡ 0
+  pub out : out_text behavior ≡ flat_map (out_by report Right) names
+  pub err : err_text behavior ≡ []
 
 -- what these runs wrote, one after another, is good as a manifest, if they have a name and it isn't too long
 abbrev pub IsAccepted : List GenerationRun → Type 0

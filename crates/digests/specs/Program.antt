@@ -3,7 +3,8 @@ use Rattle.std.specs.Prelude.{ℕ, ◌≡◌, ◌⊎◌, false, List, [], ◌++�
 use Rattle.std.specs.Prelude.{unwrap_or}
 use Rattle.digest_kinds.specs.Bytes.{ByteString}
 use Rattle.sum_settings.specs.declared.stop.Stop.{Stop, TheVariants.Memory, TheVariants.Write}
-use Rattle.sum_lines.specs.sinks.Output.{OutputState, GivesAll}
+use Rattle.sum_lines.specs.sinks.Output.{OutputState}
+use Rattle.sum_lines.specs.sinks.GivesAll.{GivesAll}
 use Rattle.sum_sources.specs.sources.Source.{ToldAnswer}
 use Rattle.sum_engine.specs.{Behavior.World, Behavior.Behavior, Behavior.single_step, Execution.Performs}
 use Rattle.sum_engine.specs.{Streams.BothOutputs, Streams.StreamsState, Streams.FailuresMatch}
@@ -35,8 +36,8 @@ ReportsStop tool (Err stop) before after status = (status ≡ 1) × (after ≡ r
 -- THE PROGRAM, for one call. Its run does what `Runs` says. A stop is then reported, if the call has a tool
 pub record CallPerforms (tool : Option Tool) (Runs : StreamsState → StreamsState → Result ℕ Stop → Type 0)
     (before after : StreamsState) (status : ℕ) : Type 0 where
-  pub result : Result ℕ Stop
-  pub between : StreamsState
+  pub result : Result ℕ Stop  -- what the run returned
+  pub between : StreamsState  -- the streams after the run, before a stop is reported
   pub runs : Runs before between result
   pub failures : FailuresMatch before.outputs between.outputs result
   pub inputs : after.inputs ≡ between.inputs

@@ -2,7 +2,7 @@
 ghost use Rattle.digests.specs.{Program.stop_line, private.Finish.FinishesRun, private.Finish.FlushesBoth};
 ghost use Rattle.std.specs.Prelude.{◌≡◌, Ok};
 ghost use Rattle.sum_engine.specs.Streams.{failures_of};
-ghost use Rattle.sum_lines.specs.sinks.Output.{GivesAll};
+ghost use Rattle.sum_lines.specs.sinks.GivesAll.{GivesAll};
 
 use crate::messages::Message;
 use sum_engine::{Outputs, Stop};

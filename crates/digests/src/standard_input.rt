@@ -1,9 +1,10 @@
 //! The standard input that the program is started with.
 ghost use Rattle.std.specs.Prelude.{◌≡◌, ◌⊎◌, false, Some};
-ghost use Rattle.sum_sources.specs.{Fault.bad_descriptor, declared.fault.Ending.TheVariants.Broken};
+ghost use Rattle.sum_sources.specs.{declared.fault.Ending.TheVariants.Broken};
+ghost use Rattle.sum_sources.specs.inputs.Stdin.{bad_descriptor};
 ghost use Rattle.sum_sources.specs.declared.inputs.input.Phase.TheVariants.{Unfinished};
 ghost use Rattle.sum_sources.specs.declared.inputs.stdin.Closable.TheVariants.{Open, Closed};
-ghost use Rattle.sum_sources.specs.inputs.Input.{no_reads};
+ghost use Rattle.sum_sources.specs.inputs.InputLog.{no_reads};
 
 use std::io::Read;
 use std::os::fd::AsFd;

@@ -2,7 +2,7 @@
 ghost use Rattle.digests.specs.Program.{ProgramPerforms, fresh_streams};
 ghost use Rattle.std.specs.Prelude.{ℕ, suc, All, ◌≡◌, Ok, codes};
 ghost use Rattle.sum_engine.specs.{Behavior.World, Execution.Agrees, Execution.ReadsFile, Streams.failures_of};
-ghost use Rattle.sum_sources.specs.inputs.Input.{empty_content};
+ghost use Rattle.sum_sources.specs.inputs.InputLog.{empty_content};
 ghost use Rattle.sum_words.specs.System.{system_arguments_state};
 
 use crate::command_run::command;

@@ -11,13 +11,13 @@ use Rattle.digest_kinds.specs.declared.{kind.LengthFault.TheVariants.TooLong}
 use Rattle.sum_settings.specs.declared.style.{Mode.TheVariants.Text, Mode.TheVariants.Tag}
 use Rattle.sum_lines.specs.{Escape.escape, writing.PutLine.digest_line, sinks.Output.pieces_of}
 use Rattle.sum_lines.specs.grammar.{Form.form_of, LineParts.plain_parts, LineParts.tagged_parts, ParsedLines.parse_line}
-use Rattle.sum_lines.specs.grammar.{ParsedLines.ignored, ParsedLines.bad, ParsedLines.entry, ParsedLines.entry_of}
+use Rattle.sum_lines.specs.grammar.{ParsedLines.ParsedLine, ParsedLines.entry_of}
 use Rattle.sum_lines.specs.declared.reading.read_line.Form.TheVariants.{Undecided, Standard, Reversed}
 use Rattle.sum_sources.specs.{inputs.Input.Content, LineReader.lines_in, LineReader.raw_lines}
 use Rattle.sum_sources.specs.declared.fault.{Ending.TheVariants.Whole, Ending.TheVariants.Broken}
 use Rattle.sum_sources.specs.declared.fault.{Fault.TheVariants.Other, Fault.TheVariants.NotFound}
 use Rattle.sum_engine.specs.ToolLines.{name_fault_line}
-use Rattle.sum_words.specs.{messages.FaultLines.fault_lines, parsing.WordFault.ambiguous_long}
+use Rattle.sum_words.specs.{messages.FaultLines.fault_lines, parsing.WordFault.WordFaultValue}
 use Rattle.sum_words.specs.{declared.tool.Tool.TheVariants.Md5sum}
 use Prim.Native.String.{String}
 
@@ -67,16 +67,16 @@ written = (refl, refl, refl, refl)
 -- what lines say
 read :
     (form_of (One Md5) (codes "900150983cd24fb0d6963f7d28e17f72 a" ∷ []) ≡ Reversed)
-    × (parse_line (One Md5) Standard (codes "900150983cd24fb0d6963f7d28e17f72 a") ≡ bad)
-    × (parse_line (One Md5) Standard (codes "#") ≡ ignored)
+    × (parse_line (One Md5) Standard (codes "900150983cd24fb0d6963f7d28e17f72 a") ≡ ParsedLine.bad)
+    × (parse_line (One Md5) Standard (codes "#") ≡ ParsedLine.ignored)
     × (parse_line Any Undecided (codes "BLAKE2b-8 (a) = 2e")
-    ≡ entry (record { kind = blake2b_kind 1; digest = 46 ∷ []; name = codes "a" }))
+    ≡ ParsedLine.entry (record { kind = blake2b_kind 1; digest = 46 ∷ []; name = codes "a" }))
 unfolding lines_on_literals
 read = (refl, refl, refl, refl)
 
 -- lines of a tool
 reported :
-    (fault_lines Md5sum (ambiguous_long (codes "s"))
+    (fault_lines Md5sum (WordFaultValue.ambiguous_long (codes "s"))
     ≡ codes "md5sum: option '--s' is ambiguous\nTry 'md5sum --help' for more information.\n")
     × (name_fault_line (codes "md5sum") (codes "a\nb") NotFound ≡ codes "md5sum: a\\nb: No such file or directory\n")
 unfolding lines_on_literals

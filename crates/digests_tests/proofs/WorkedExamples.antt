@@ -14,7 +14,8 @@ use Rattle.sum_engine.specs.{check.Report.bad_line, check.Rules.rules_of, check.
 use Rattle.sum_engine.specs.declared.check.judge.Verdict.{Verdict, TheVariants.Right, TheVariants.Wrong}
 use Rattle.sum_engine.specs.declared.check.judge.Verdict.{TheVariants.Unread}
 use Rattle.sum_sources.specs.{sources.Source.AnswerValue, inputs.Input.Content, Content.limit}
-use Rattle.sum_sources.specs.{inputs.Input.empty_content, sources.WithStdin.answers_with}
+use Rattle.sum_sources.specs.{sources.WithStdin.answers_with}
+use Rattle.sum_sources.specs.inputs.InputLog.{empty_content}
 use Rattle.sum_sources.specs.LineReader.{raw_lines}
 use Rattle.sum_sources.specs.declared.fault.{Fault.Fault, Ending.TheVariants.Whole, Ending.TheVariants.Broken}
 use Rattle.sum_sources.specs.declared.fault.{Fault.TheVariants.NotFound, Fault.TheVariants.Other}

@@ -4,7 +4,7 @@ ghost use Rattle.digests.specs.Laws.{HasFiles, IsListable};
 ghost use Rattle.digests.specs.ToolRun.{meaning, status_of};
 ghost use Rattle.std.specs.Prelude.{◌≡◌, ◌<◌, ◌+◌, ◌∷◌, ◌++◌, [], Ok, IfOk, Some, codes, length};
 ghost use Rattle.sum_sources.specs.declared.fault.Ending.TheVariants.{Whole};
-ghost use Rattle.sum_sources.specs.inputs.Input.{empty_content};
+ghost use Rattle.sum_sources.specs.inputs.InputLog.{empty_content};
 ghost use Rattle.sum_sources.specs.sources.Source.{AnswerValue as AnswerValue, Answers, TellsAll};
 ghost use Rattle.sum_engine.specs.Behavior.{World, answer_to, out_text, err_text};
 ghost use Rattle.sum_engine.specs.{Streams.failures_of, check.Report.out_by};

@@ -1,6 +1,6 @@
 //! An input of one's own: the bytes of a reader.
 ghost use Rattle.std.specs.Prelude.{◌≡◌};
-ghost use Rattle.sum_sources.specs.inputs.Input.{no_reads};
+ghost use Rattle.sum_sources.specs.inputs.InputLog.{no_reads};
 
 use std::io::Read;
 use sum_sources::{Fault, Input, InputCalls, InputLog, ReadNote};

@@ -3,7 +3,8 @@
 
 ghost use Rattle.digest_kinds.specs.{Bytes.LIMIT, Kind.message_digest};
 ghost use Rattle.std.specs.Prelude.{◌<◌, false, length};
-ghost use Rattle.sum_lines.specs.{sinks.Output.GivesAll, writing.PutLine.digest_line};
+ghost use Rattle.sum_lines.specs.{writing.PutLine.digest_line};
+ghost use Rattle.sum_lines.specs.sinks.GivesAll.{GivesAll};
 
 use digest_kinds::{Algo, Algos, AnyHasher, Hasher, Kind};
 use sum_lines::{

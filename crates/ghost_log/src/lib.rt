@@ -71,7 +71,7 @@ impl<T> Log<T> {
 
     /// Creates a log whose state is this value.
     pub fn of(first: &T) -> Log<T>
-        ensures { result ≡ first.now }
+        ensures state { result ≡ first.now }
     {
         Log::made::<_, Itself>(first)
     }
@@ -80,7 +80,7 @@ impl<T> Log<T> {
     pub fn with_note<X>(&self, note: &X) -> Log<T>
     where
         T: Notes<X>,
-        ensures { result ≡ T.after_note self.now note.now }
+        ensures state { result ≡ T.after_note self.now note.now }
     {
         Log::made::<_, WithNote>(&(self, note))
     }

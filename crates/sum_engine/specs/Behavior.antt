@@ -49,7 +49,8 @@ pub record Behavior : Type 0 where
 -- the events of a step, in their order. Each text is offered in one piece, or in pieces of 8,192 bytes
 abbrev pub events_of : Step → List Event
 events_of step =
-    map open_name step.names ++ (map to_err (output_events step.err) ++ map to_out (output_events step.out))
+    map Event.open_name step.names
+    ++ (map Event.to_err (output_events step.err) ++ map Event.to_out (output_events step.out))
 
 -- the events of steps, one step after another
 abbrev pub trace : List Step → List Event

@@ -8,22 +8,22 @@ use Rattle.sum_sources.specs.{declared.fault.Ending.TheVariants.Whole, declared.
 use Rattle.sum_sources.specs.{declared.inputs.input.Phase.TheVariants.Ended}
 use Rattle.sum_sources.specs.{declared.inputs.input.Phase.TheVariants.Past, inputs.Input.Reads}
 use Rattle.sum_sources.specs.sources.Source.{SourceState, Opening, FitsAnswer, names_of, result_at}
-use Rattle.sum_engine.specs.{Behavior.World, Behavior.Event, Behavior.open_name, Behavior.to_err, Behavior.to_out}
+use Rattle.sum_engine.specs.{Behavior.World, Behavior.Event}
 use Rattle.sum_engine.specs.{Behavior.Step, Behavior.Behavior, Behavior.trace, Streams.StreamsState}
 
 -- ---- what was read
 
 -- a world agrees with all that was read so far
-pub record Agrees (world : World) (state : SourceState) : Type 0 where
-  pub gave : (name : ByteString) (k : ℕ) → IfSome (result_at state.openings name k) (FitsAnswer (world.answer name k))
+pub record Agrees (world : World) (source : SourceState) : Type 0 where
+  pub gave : (name : ByteString) (k : ℕ) → IfSome (result_at source.openings name k) (FitsAnswer (world.answer name k))
 
 -- the names that were opened so far
 abbrev pub opened_names : SourceState → List ByteString
-opened_names state = names_of state.openings
+opened_names source = names_of source.openings
 
 -- the world as it is from here on
 abbrev pub world_at : World → SourceState → World
-world_at world state = record world { opened = opened_names state }
+world_at world source = record world { opened = opened_names source }
 
 -- no read came after an end or a fault, or went into an empty buffer. If Wanted holds, the end was found
 abbrev pub IsAtEndIf : Type 0 → Reads → Type 0
@@ -51,17 +51,17 @@ RefusesMemory before after = after ≡ record before { refusals = before.refusal
 
 -- the name that an event opens, if it opens one
 abbrev pub opened_name : Event → Option ByteString
-opened_name (open_name name) = Some name
+opened_name (Event.open_name name) = Some name
 opened_name event = None
 
 -- what standard error gets by an event, if it gets something
 abbrev pub err_event : Event → Option OutputEvent
-err_event (to_err event) = Some event
+err_event (Event.to_err event) = Some event
 err_event event = None
 
 -- what standard output gets by an event, if it gets something
 abbrev pub out_event : Event → Option OutputEvent
-out_event (to_out event) = Some event
+out_event (Event.to_out event) = Some event
 out_event event = None
 
 -- these events happened: the names were opened, and each output was offered its pieces and wrote its bytes
@@ -76,8 +76,8 @@ streams_with_refusals n state = record state { inputs = record state.inputs { re
 
 -- memory ran out before the next step: the source was refused memory for its name, or bytes of a manifest remained
 pub record RunsOutOfMemory (steps : List Step) (before after : StreamsState) : Type 0 where
-  pub done : List Step
-  pub next : Step
+  pub done : List Step  -- the steps that happened
+  pub next : Step  -- the one before which memory ran out
   pub later : List Step
   pub are : steps ≡ done ++ next ∷ later
   pub happened : Happened before (streams_with_refusals before.inputs.refusals after) (trace done)
@@ -92,8 +92,9 @@ PerformsSteps steps outcome before after (Err Write) =
     (front rest : List Event) × (trace steps ≡ front ++ rest) × Happened before after front
 PerformsSteps steps outcome before after (Err Memory) = RunsOutOfMemory steps before after
 
--- a call performs a behavior in each world that agrees with what was read by its end; what it returns depends on `good`
+-- in each world that agrees with what was read by its end, a call performs the behavior, and returns what `good` asks
 abbrev pub Performs : {A : Type 0} → (World → Behavior) → (Bool → A) → StreamsState → StreamsState → Result A Stop
     → Type 0
-Performs behavior wanted before after result = (world : World) → Agrees world after.inputs
-    → let all = behavior (world_at world before.inputs) in PerformsSteps all.steps (wanted all.good) before after result
+Performs behavior_of outcome_of before after result = (world : World) → Agrees world after.inputs
+    → let behavior = behavior_of (world_at world before.inputs) in
+    PerformsSteps behavior.steps (outcome_of behavior.good) before after result

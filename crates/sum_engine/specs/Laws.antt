@@ -9,7 +9,7 @@ use Rattle.sum_settings.specs.declared.stop.Stop.{Stop}
 use Rattle.sum_lines.specs.Escape.{escape}
 use Rattle.sum_lines.specs.grammar.Entries.{EntryValue, IsEntry}
 use Rattle.sum_lines.specs.grammar.Form.{form_of}
-use Rattle.sum_lines.specs.grammar.ParsedLines.{parse_line, ParsedLine, ignored, bad, entry}
+use Rattle.sum_lines.specs.grammar.ParsedLines.{parse_line, ParsedLine}
 use Rattle.sum_lines.specs.grammar.Shapes.{IsPlain, backslash_if}
 use Rattle.sum_sources.specs.declared.inputs.input.TheConstants.{PIECE}
 use Rattle.sum_sources.specs.inputs.Input.{Content, InputState}
@@ -41,8 +41,8 @@ use Rattle.sum_sources.specs.declared.line_reader.LineStop.TheVariants.{Fault, M
 
 -- some world agrees with what was read so far, and has each answer that the source tells
 abbrev pub ToldAgree : ToldAnswers → SourceState → Type 0
-ToldAgree tells state = (world : World) × Agrees world state
-    × ((name : ByteString) (k : ℕ) → IfSome (tells state.told name k) (λ told. world.answer name k ≡ told))
+ToldAgree tells source = (world : World) × Agrees world source
+    × ((name : ByteString) (k : ℕ) → IfSome (tells source.told name k) (λ told. world.answer name k ≡ told))
 
 -- if a behavior's trace happened, each output grew by its text, and its names were opened
 abbrev pub EventsExtend : Type 0
@@ -64,10 +64,10 @@ TakesSteps rules labels check_before check_after before after (vector ∷ vector
 
 -- STEP BY STEP: a new checker of a manifest with this content and behavior took a step for each of these vectors, and
 -- each step returned Going
-pub record HasTakenSteps (rules : CheckRules) (labels : LabelsValue) (content : Content) (all : Behavior)
+pub record HasTakenSteps (rules : CheckRules) (labels : LabelsValue) (content : Content) (behavior : Behavior)
     (vectors : List ByteString) (state : CheckState) (before after : StreamsState) : Type 0 where
   -- exactly this many steps of the behavior happened, each of one line
-  pub happened : Happened before after (trace (take (length vectors) all.steps))
+  pub happened : Happened before after (trace (take (length vectors) behavior.steps))
   -- what the input gave goes at most `PIECE` bytes beyond the end of the last of these lines
   pub taken : state.taken + length (content_past_lines (length vectors) content).bytes ≤ length content.bytes + PIECE
   -- each vector holds at most as many bytes as its line
@@ -76,7 +76,7 @@ pub record HasTakenSteps (rules : CheckRules) (labels : LabelsValue) (content : 
   -- if the next step ends or stops, the whole behavior was performed; and it ends only after all lines
   pub last : (result : Result Bool Stop) (vector : ByteString) (check_after : CheckState) (end : StreamsState)
       → IsStep rules labels vector state check_after after end (end_result result)
-      → PerformsSteps all.steps all.good before end result
+      → PerformsSteps behavior.steps behavior.good before end result
   pub lines : (good : Bool) (vector : ByteString) (check_after : CheckState) (end : StreamsState)
       → IsStep rules labels vector state check_after after end (Ok (Ended good))
       → length vectors ≡ length (lines_in content)
@@ -147,8 +147,9 @@ older_escape name = flat_map (λ b. if b == byte "\\" then codes "\\\\" else if 
 
 -- a line said this to older versions: they ignored only what begins with `#`, and an entry's name had the older escape
 pub record SaidOnce (algos : Algos) (form : Form) (line : ByteString) (said : ParsedLine) : Type 0 where
-  pub when_ignored : (said ≡ ignored) ↔ IsTrue (starts_with ◌==◌ line (codes "#"))
-  pub when_entry : (listed : EntryValue) → (said ≡ entry listed) ↔ IsEntry older_escape algos form line listed
+  pub when_ignored : (said ≡ ParsedLine.ignored) ↔ IsTrue (starts_with ◌==◌ line (codes "#"))
+  pub when_entry : (listed : EntryValue) → (said ≡ ParsedLine.entry listed)
+      ↔ IsEntry older_escape algos form line listed
 
 -- these lines said this to older versions, one by one
 abbrev pub EachSaidOnce : Algos → Form → List ByteString → List ParsedLine → Type 0
@@ -271,4 +272,4 @@ OldVerdicts = (rules : CheckRules) (labels : LabelsValue) (world : World) (conte
 abbrev pub OlderDiffers : Type 0
 OlderDiffers = (older_escape (codes "\r") ≡ codes "\r")
     × (raw_lines (record { bytes = codes "a\r\n"; ending = Whole }) ≡ codes "a\r" ∷ [])
-    × ((algos : Algos) (form : Form) (said : ParsedLine) → SaidOnce algos form [] said ↔ (said ≡ bad))
+    × ((algos : Algos) (form : Form) (said : ParsedLine) → SaidOnce algos form [] said ↔ (said ≡ ParsedLine.bad))

@@ -1,7 +1,8 @@
 -- What a contract sees of the streams: their state, and the failures of outputs.
 use Rattle.std.specs.Prelude.{ℕ, ◌≡◌, ◌+◌, ◌⊎◌, Result, Ok, Err}
 use Rattle.digest_kinds.specs.Bytes.{ByteString}
-use Rattle.sum_lines.specs.sinks.Output.{OutputState, output_events, Gets, GetsPrefix}
+use Rattle.sum_lines.specs.sinks.Output.{OutputState, output_events, Gets}
+use Rattle.sum_lines.specs.sinks.GivesAll.{GetsPrefix}
 use Rattle.sum_settings.specs.declared.stop.Stop.{Stop, TheVariants.Memory, TheVariants.Write}
 use Rattle.sum_sources.specs.sources.Source.{SourceState}
 

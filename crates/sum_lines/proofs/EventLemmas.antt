@@ -7,7 +7,8 @@ use Rattle.std.proofs.lemmas.{Grind.common_steps, List.take-append-le, List.drop
 use Rattle.std.proofs.lemmas.{List.Elements.filter_map-append}
 use Rattle.std.specs.{List.concat, Simd.first_chunks}
 use Rattle.sum_lines.specs.sinks.Output.{OutputState, OutputEvent, offer_piece, write_byte, written_byte, pieces_of}
-use Rattle.sum_lines.specs.sinks.Output.{byte_events, output_events, OffersEach, Gets, GetsPrefix}
+use Rattle.sum_lines.specs.sinks.Output.{byte_events, output_events, OffersEach, Gets}
+use Rattle.sum_lines.specs.sinks.GivesAll.{GetsPrefix}
 
 -- ---- the pieces of a text
 

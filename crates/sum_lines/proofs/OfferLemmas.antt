@@ -3,7 +3,8 @@ use Rattle.sum_lines.specs.declared.sinks.buffered.TheConstants.{CAPACITY}
 use Rattle.std.proofs.Common.{ℕ, zero, suc, ◌≡◌, ◌<◌, ◌≤◌, List, [], ◌∷◌, ◌++◌, length, take, drop, filter_map, Ok, Err}
 use Rattle.std.proofs.Common.{inl, inr, refl, ap, append_assoc, append-nil, arith, rules}
 use Rattle.std.proofs.lemmas.List.Elements.{filter_map-append}
-use Rattle.sum_lines.specs.sinks.Output.{OutputEvent, OffersEach, GivesAll, offer_piece, write_byte, written_byte}
+use Rattle.sum_lines.specs.sinks.Output.{OutputEvent, OffersEach, offer_piece, write_byte, written_byte}
+use Rattle.sum_lines.specs.sinks.GivesAll.{GivesAll}
 use Rattle.sum_lines.specs.sinks.Output.{byte_events, output_events}
 use Rattle.sum_lines.{specs.sinks.Sink.SinkState, specs.sinks.Sink.WritesSome, proofs.EventLemmas.one_piece}
 

@@ -6,7 +6,8 @@ use Rattle.std.proofs.Common.{rules, arith}
 use Rattle.std.specs.Result.{IsErr}
 use Rattle.sum_lines.proofs.EventLemmas.{output_events-append, Gets-none, Gets-then, GetsPrefix-then}
 use Rattle.sum_lines.specs.sinks.{Buffered.BufferState, Buffered.Accepts, Buffered.FailsToWrite, Buffered.WritesAll}
-use Rattle.sum_lines.specs.sinks.{Output.OutputState, Output.GivesAll, Output.output_events}
+use Rattle.sum_lines.specs.sinks.{Output.OutputState, Output.output_events}
+use Rattle.sum_lines.specs.sinks.GivesAll.{GivesAll}
 use Rattle.sum_lines.specs.private.Buffered.{MakesRoom}
 
 -- ---- two texts, one after the other

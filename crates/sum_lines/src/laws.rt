@@ -5,7 +5,8 @@ ghost use Rattle.digest_kinds.specs.Bytes.{ByteString};
 ghost use Rattle.std.specs.Prelude.{◌≡◌, ◌<◌, ◌≤◌, ◌∷◌, ◌++◌, [], length};
 ghost use Rattle.sum_lines.specs.grammar.LineLaws.{EntryIsWritable, HasOneShape, HasOneEntry, HasOneForm};
 ghost use Rattle.sum_lines.specs.grammar.LineLaws.{ParsesByGrammar, IsReadBack};
-ghost use Rattle.sum_lines.specs.sinks.Output.{Gets, GetsPrefix, OutputState, output_events, pieces_of};
+ghost use Rattle.sum_lines.specs.sinks.Output.{Gets, OutputState, output_events, pieces_of};
+ghost use Rattle.sum_lines.specs.sinks.GivesAll.{GetsPrefix};
 
 /// For given algorithms and a given form, a line spells at most one entry. No line is both plain and tagged, even with
 /// different algorithms.

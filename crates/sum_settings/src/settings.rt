@@ -44,7 +44,7 @@ impl CheckSettings {
     /// Creates the settings of the plain check of lines of these algorithms: everything is reported, and no option is
     /// set.
     pub fn new(algo: Algos) -> Self
-        ensures { result
+        ensures settings { result
             ≡ record { algo = algo; report = All; strict = false; ignore_missing = false } }
     {
         CheckSettings {

@@ -7,7 +7,8 @@ use Rattle.std.proofs.lemmas.{List.Splits.slice_split_at, List.Splits.slice_spli
 use Rattle.std.specs.{Char.is_newline, List.after_first, Str.Lines.strip_carriage_return}
 use Rattle.sum_sources.specs.LineReader.{Line, last_line, raw_lines, lines_in, past_line, HasNoNewline, IsNextLine}
 use Rattle.sum_sources.{specs.Fault.Fault, specs.Fault.Ending, specs.Fault.Broken, specs.inputs.Input.Content}
-use Rattle.sum_sources.{specs.inputs.Input.empty_content, proofs.ContentLemmas.with_prefix}
+use Rattle.sum_sources.{proofs.ContentLemmas.with_prefix}
+use Rattle.sum_sources.specs.inputs.InputLog.{empty_content}
 use Rattle.sum_sources.specs.declared.line_reader.LineStop.TheVariants as stops
 
 -- a newline ends the first piece

@@ -11,7 +11,8 @@ use Rattle.sum_sources.proofs.GaveLemmas.{gave-append, gave-opening, gave-closin
 use Rattle.sum_sources.specs.sources.WithStdin.{is_dash, first_or_later, answer_of_both, with_stdin_state}
 use Rattle.sum_sources.specs.sources.WithStdin.{state_without_dash, other_openings, IsUntakenUnlessOpened, GivesStdin}
 use Rattle.sum_sources.specs.sources.WithStdin.{IsSoundWithStdin}
-use Rattle.sum_sources.specs.inputs.Input.{Content, InputState, Reads, HasContent, empty_reads, empty_content}
+use Rattle.sum_sources.specs.inputs.Input.{Content, InputState, Reads, HasContent, empty_reads}
+use Rattle.sum_sources.specs.inputs.InputLog.{empty_content}
 use Rattle.sum_sources.specs.inputs.Input.{Unfinished}
 use Rattle.sum_sources.specs.inputs.Stdin.{is_untaken, StdinValue, GivesUnread, given_input, closable_state}
 use Rattle.sum_sources.specs.inputs.Stdin.{stdin_after_taking, stdin_after_put_back}

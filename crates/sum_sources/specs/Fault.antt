@@ -58,7 +58,3 @@ fault_text NotFound = codes "No such file or directory"
 fault_text Denied = codes "Permission denied"
 fault_text Other = codes "Input/output error"
 fault_text (Os n) = if length (reason n) == 0 then codes "Input/output error" else reason n
-
--- the fault of a descriptor that isn't open, EBADF
-abbrev pub bad_descriptor : Fault
-bad_descriptor = Os (pos 9)

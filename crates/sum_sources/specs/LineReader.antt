@@ -6,7 +6,8 @@ use Rattle.std.specs.Char.{is_newline}
 use Rattle.std.specs.Str.Lines.{strip_carriage_return}
 use Rattle.digest_kinds.specs.Bytes.{ByteString, LIMIT}
 use Rattle.sum_sources.specs.Fault.{Ending, Whole, Broken, Fault}
-use Rattle.sum_sources.specs.inputs.Input.{Content, empty_content, Unfinished, Ended, Past, InputState, Reads, Fits}
+use Rattle.sum_sources.specs.inputs.Input.{Content, Unfinished, Ended, Past, InputState, Reads, Fits}
+use Rattle.sum_sources.specs.inputs.InputLog.{empty_content}
 use Rattle.sum_sources.specs.inputs.Input.{IsSameInput, clip, reads_past}
 use Rattle.sum_sources.specs.declared.line_reader.ReaderState.{ReaderState}
 use Rattle.sum_sources.specs.declared.line_reader.ReaderState.TheVariants.{Active, Done, Stopped}
@@ -21,7 +22,7 @@ abbrev pub last_line : Ending → ByteString → List ByteString
 last_line Whole (x ∷ xs) = (x ∷ xs) ∷ []
 last_line _ _ = []
 
--- the lines of a content with their carriage returns: each piece that a newline ended, and the last one by its own rule
+-- the lines of a content with their carriage returns. A newline ended each piece but the last, which `last_line` judges
 unfoldable pub raw_lines : Content → List ByteString
 raw_lines content = let pieces = slice_split is_newline content.bytes in
     take (length pieces - 1) pieces ++ last_line content.ending (slice_index_or pieces (length pieces - 1) [])

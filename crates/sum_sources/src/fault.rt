@@ -37,7 +37,7 @@ const EACCES: i32 = 13;
 impl Fault {
     /// Returns the fault as diagnostics show it.
     pub fn text(self) -> &'static str
-        ensures { result.now ≡ fault_text self }
+        ensures text { result.now ≡ fault_text self }
     {
         match self {
             Fault::NotFound => "No such file or directory",

@@ -13,7 +13,7 @@ use crate::{Input, Source, WithStdin};
 /// If standard input and the answers of a source are in memory, so are those of both as one source: the first opening
 /// of `-` gives standard input, each later one an empty content, and every other name what it gives in the source.
 pub fn with_stdin_tells()
-    ensures { (stdin : Content) (tells : ToldAnswers) (told : List ToldAnswer) (answer : Answers)
+    ensures answers { (stdin : Content) (tells : ToldAnswers) (told : List ToldAnswer) (answer : Answers)
         → TellsAll tells told answer
         → TellsAll (answer_of_both tells) (pairs_with_stdin (Some stdin) told)
         (answers_with stdin answer) }
@@ -21,7 +21,7 @@ pub fn with_stdin_tells()
 
 /// Standard input was taken if and only if `-` was opened.
 pub fn stdin_is_taken<I: Input, S: Source>(inputs: &WithStdin<I, S>)
-    ensures { is_untaken (stdin_in inputs.now)
+    ensures taken { is_untaken (stdin_in inputs.now)
         ≡ (times (codes "-") (names_of (both_state inputs.now).openings) == 0) }
 {}
 

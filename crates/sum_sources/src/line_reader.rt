@@ -127,7 +127,7 @@ impl<I: Input> LineReader<I> {
 
     /// Returns the input, past the bytes that were read from it. Bytes that were read ahead of the last line are lost.
     pub fn into_inner(self) -> I
-        ensures { result ≡ self.input }
+        ensures input { result ≡ self.input }
     {
         self.input
     }

@@ -118,7 +118,8 @@ impl<'a, A: Allocator> Source for InTurn<'a, A> {
     type File = TwoParts<'a>;
 
     ghost use Rattle.std.specs.Prelude.{[]};
-    ghost use Rattle.sum_sources.specs.sources.{Source.no_answer, SourceLaws.untold_gives};
+    ghost use Rattle.sum_sources.specs.sources.{SourceLaws.untold_gives};
+    ghost use Rattle.sum_sources.specs.sources.SourceLog.{no_answer};
 
     ghost state = { λ s. record s.log { told = [] } };
 

@@ -17,12 +17,12 @@ abbrev pub state_after_fill : ArgumentsState → ByteString → Result ℕ FillE
 state_after_fill before buffer (Ok n) = record before { given = before.given ++ take n buffer ∷ []; fault = None }
 state_after_fill before buffer (Err fault) = record before { fault = Some (fault, length buffer) }
 
--- these arguments explain the fault of a call: the first is longer than the call's buffer, or there is none
+-- these arguments, if they were left, explain a call's fault: the first is longer than its buffer, or there is none
 abbrev pub Explains : List ByteString → FillError × ℕ → Type 0
 Explains rest (TooLong, size) = IsSomeAnd (slice_get rest 0) (λ argument. size < length argument)
 Explains rest (NotPresent, size) = rest ≡ []
 
--- a list of arguments agrees with what the calls gave
+-- a list of all arguments agrees with what the calls gave so far
 pub record FitsArguments (state : ArgumentsState) (all : List ByteString) : Type 0 where
   pub told : IfSome state.told (λ told. all ≡ told)  -- it is the list in memory, if there is one
   pub given : all ≡ state.given ++ drop (length state.given) all  -- it begins with the arguments that were given

@@ -1,5 +1,5 @@
 -- The tools: the name and the algorithms of each.
-use Rattle.std.specs.Prelude.{[], ◌∷◌, Option, codes, find, bytes_eq}
+use Rattle.std.specs.Prelude.{codes}
 use Rattle.digest_kinds.specs.declared.algo.Algo.TheVariants.{Md5, Sha1, Sha224, Sha256, Sha384, Sha512, Blake2b}
 use Rattle.digest_kinds.specs.{declared.algo.Algos.TheVariants.One, declared.algo.Algos.TheVariants.Any}
 use Rattle.digest_kinds.specs.{Bytes.ByteString, declared.algo.Algos.Algos}
@@ -24,8 +24,3 @@ name_of tool = (tool_row tool).0
 -- the algorithms of a tool
 abbrev pub algos_of : Tool → Algos
 algos_of tool = (tool_row tool).1
-
--- the tool of this name, if there is one
-unfoldable pub tool_called : ByteString → Option Tool
-tool_called name = find (λ tool. bytes_eq (name_of tool) name) (tools.Md5sum ∷ tools.Sha1sum ∷ tools.Sha224sum ∷
-    tools.Sha256sum ∷ tools.Sha384sum ∷ tools.Sha512sum ∷ tools.B2sum ∷ tools.Anysum ∷ [])

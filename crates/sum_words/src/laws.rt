@@ -3,7 +3,7 @@ ghost use Rattle.digest_kinds.specs.Bytes.{ByteString};
 ghost use Rattle.std.specs.List.{AllPass};
 ghost use Rattle.std.specs.Prelude.{◌≡◌, not, List, ◌∷◌, ◌++◌, map, codes};
 ghost use Rattle.sum_words.specs.{Arguments.FitsArguments, declared.tool.Tool.Tool};
-ghost use Rattle.sum_words.specs.parsing.Items.{operand, a_word, is_option_word, items_from};
+ghost use Rattle.sum_words.specs.parsing.Items.{ItemValue, NextWord, is_option_word, items_from};
 
 use crate::arguments::Arguments;
 
@@ -18,7 +18,8 @@ pub fn some_list_agrees<G: Arguments>(arguments: &G)
 pub fn plain_words_are_operands()
     ensures plain { (tool : Tool) (words more : List ByteString) →
         AllPass (λ word. not (is_option_word word)) words →
-        items_from tool (words ++ more) a_word ≡ map operand words ++ items_from tool more a_word }
+        items_from tool (words ++ more) NextWord.a_word
+        ≡ map ItemValue.operand words ++ items_from tool more NextWord.a_word }
     ensures after_dashes { (tool : Tool) (words : List ByteString) →
-        items_from tool (codes "--" ∷ words) a_word ≡ map operand words }
+        items_from tool (codes "--" ∷ words) NextWord.a_word ≡ map ItemValue.operand words }
 {}

@@ -1,6 +1,7 @@
 //! The tools and their names.
 ghost use Rattle.std.specs.Prelude.{◌≡◌, ◌↔◌, Some, Ok, IfSome};
-ghost use Rattle.sum_words.specs.{Tool.name_of, Tool.algos_of, Tool.tool_called, declared.tool.Tool.Tool};
+ghost use Rattle.sum_words.specs.{Tool.name_of, Tool.algos_of, declared.tool.Tool.Tool};
+ghost use Rattle.sum_words.specs.CommandLine.{tool_called};
 
 use digest_kinds::{Algo, Algos};
 use std::fmt;
@@ -34,7 +35,7 @@ impl Tool {
     ];
 
     /// Returns the tool of this name, if there is one.
-    #[tactic(auto, unfolding(crate::specs::Tool::tool_called))]
+    #[tactic(auto, unfolding(crate::specs::CommandLine::tool_called))]
     pub fn from_word(word: &str) -> Option<Tool>
         ensures tool { (tool : Tool) → (result ≡ Some tool) ↔ (name_of tool ≡ word.now) }
     {
@@ -42,7 +43,7 @@ impl Tool {
     }
 
     /// Returns the tool whose name these bytes are, if there is one.
-    #[tactic(auto, unfolding(crate::specs::Tool::tool_called))]
+    #[tactic(auto, unfolding(crate::specs::CommandLine::tool_called))]
     pub fn from_bytes(name: &[u8]) -> Option<Tool>
         ensures tool { result ≡ tool_called name.now }
         // So the tool's name is this one.

@@ -6,7 +6,8 @@ use Rattle.digest_kinds.specs.Bytes.{ByteString}
 use Rattle.sum_engine.specs.{Behavior.Behavior, Behavior.World, Behavior.single_step, Streams.BothOutputs}
 use Rattle.sum_engine.specs.{Streams.FailuresMatch, Streams.StreamsState, Streams.failures_of}
 use Rattle.sum_engine.specs.Execution.{Agrees, Performs, RunsOutOfMemory, world_at}
-use Rattle.sum_lines.{proofs.EventLemmas.output_events-bytes, specs.sinks.Output.GivesAll}
+use Rattle.sum_lines.{proofs.EventLemmas.output_events-bytes}
+use Rattle.sum_lines.specs.sinks.GivesAll.{GivesAll}
 use Rattle.sum_lines.{specs.sinks.Output.OutputState, specs.sinks.Output.written_byte}
 use Rattle.sum_settings.specs.declared.stop.Stop.{Stop, TheVariants.Memory, TheVariants.Write}
 use Rattle.sum_words.specs.declared.tool.Tool.{Tool}

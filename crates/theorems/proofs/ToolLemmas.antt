@@ -2,7 +2,8 @@
 use Rattle.std.proofs.Common.{arith, ◌≡◌, ◌≢◌, false, None, Some, refl}
 use Rattle.std.{proofs.lemmas.Slice.Eq.bytes_eq-Decides, specs.Str.bytes_eq}
 use Rattle.digest_kinds.specs.Bytes.{ByteString}
-use Rattle.sum_words.specs.{Tool.name_of, Tool.tool_called, declared.tool.Tool.Tool}
+use Rattle.sum_words.specs.{Tool.name_of, declared.tool.Tool.Tool}
+use Rattle.sum_words.specs.CommandLine.{tool_called}
 use Rattle.sum_words.specs.declared.tool.Tool.TheVariants as tools
 
 -- a tool is called by its name

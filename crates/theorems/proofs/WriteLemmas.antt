@@ -8,7 +8,8 @@ use Rattle.std.{specs.Prelude.◌≤◌}
 use Rattle.digest_kinds.specs.Bytes.{ByteString}
 use Rattle.sum_lines.{proofs.EventLemmas.output_events-bytes, specs.sinks.Buffered.BufferState}
 use Rattle.sum_lines.{specs.sinks.Buffered.WritesAll, specs.sinks.Output.written_byte}
-use Rattle.sum_lines.{proofs.EventLemmas.one_piece, specs.sinks.Output.GivesAll, specs.sinks.Output.OffersEach}
+use Rattle.sum_lines.{proofs.EventLemmas.one_piece, specs.sinks.Output.OffersEach}
+use Rattle.sum_lines.specs.sinks.GivesAll.{GivesAll}
 use Rattle.sum_lines.{specs.sinks.Output.OutputEvent, specs.sinks.Output.OutputState, specs.sinks.Output.byte_events}
 use Rattle.sum_lines.{specs.sinks.Output.output_events}
 use Rattle.theorems.specs.Writes.{Writes}

@@ -147,6 +147,11 @@ pub fn short_text_is_a_piece()
     laws::one_piece();
 }
 
+/// `CAPACITY`, the size of the pieces of a longer text, is 8,192 bytes.
+pub fn capacity_is_8192()
+    ensures capacity { CAPACITY ≡ 8192 }
+{}
+
 /// Between its calls an output holds nothing, and its sink is flushed: its sink wrote all that it did.
 pub fn output_holds_nothing<S: Sink>(output: &Output<S>) -> &S
     ensures written { (S.state result.now).output ≡ output.now }

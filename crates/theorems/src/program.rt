@@ -12,7 +12,7 @@ ghost use Rattle.sum_engine.specs.Behavior.{Step, World, single_step};
 ghost use Rattle.sum_engine.specs.{Execution.Agrees, Execution.Performs, Execution.ReadsFile};
 ghost use Rattle.sum_engine.specs.{Execution.opened_names, Execution.world_at, Streams.failures_of};
 ghost use Rattle.sum_settings.specs.declared.settings.{Settings.Settings as SettingsOf};
-ghost use Rattle.sum_sources.specs.inputs.Input.{empty_content};
+ghost use Rattle.sum_sources.specs.inputs.InputLog.{empty_content};
 ghost use Rattle.sum_sources.specs.sources.Source.{Answers, Opening, TellsAll};
 ghost use Rattle.sum_words.specs.{Arguments.FitsArguments, CommandLine.NeedsMemory, CommandLine.command_line};
 ghost use Rattle.sum_words.specs.System.{system_arguments_state};

@@ -1,15 +1,17 @@
 //! Reading: inputs, files and lines, up to their end; and standard input beside files.
 ghost use Rattle.digest_kinds.specs.{Bytes.ByteString, Bytes.LIMIT, Kind.message_digest};
 ghost use Rattle.std.specs.Prelude.{◌≡◌, ◌≢◌, ◌↔◌, ◌<◌, ◌∷◌, ◌++◌, [], Some, Ok, Err, IfOk, IfSome, codes};
-ghost use Rattle.std.specs.Prelude.{◌≤◌, IsTrue, List, ℕ, false, suc, take};
+ghost use Rattle.std.specs.Prelude.{◌≤◌, ◌^◌, IsTrue, List, ℕ, false, suc, take};
 ghost use Rattle.sum_engine.specs.{Behavior.World, Execution.Agrees};
 ghost use Rattle.sum_sources.specs.LineReader.{IsReading, reads_of, remaining_content};
 ghost use Rattle.sum_sources.specs.{declared.fault.Fault.Fault as FaultValue};
-ghost use Rattle.sum_sources.specs.LineReader.{lines_in};
+ghost use Rattle.sum_sources.specs.{Content.limit, LineReader.lines_in, declared.inputs.input.TheConstants.PIECE};
 ghost use Rattle.sum_sources.specs.declared.fault.Ending.{Ending as EndingValue, TheVariants.Whole, TheVariants.Broken};
 ghost use Rattle.sum_sources.specs.declared.inputs.input.Phase.TheVariants.{Unfinished, Ended, Past};
-ghost use Rattle.sum_sources.specs.inputs.Input.{Content, Fits, Reads, clip, empty_content, empty_reads, no_reads};
-ghost use Rattle.sum_sources.specs.{Fault.bad_descriptor, inputs.Stdin.closable_state, inputs.Stdin.is_untaken};
+ghost use Rattle.sum_sources.specs.inputs.Input.{Content, Fits, Reads, clip, empty_reads};
+ghost use Rattle.sum_sources.specs.inputs.InputLog.{empty_content, no_reads};
+ghost use Rattle.sum_sources.specs.{inputs.Stdin.closable_state, inputs.Stdin.is_untaken};
+ghost use Rattle.sum_sources.specs.inputs.Stdin.{bad_descriptor};
 ghost use Rattle.sum_sources.specs.sources.{Source.names_of, Source.state_after_opening, Source.state_with_opening};
 ghost use Rattle.sum_sources.specs.sources.Source.{Answers, ToldAnswer, TellsAll, ToldAnswers};
 ghost use Rattle.sum_sources.specs.sources.{Source.times, WithStdin.TakesStdin, WithStdin.is_dash};
@@ -131,6 +133,18 @@ pub fn lines_to_end<I: Input, A: Allocator>(
 {
     reader.next_line(line)
 }
+
+/// `PIECE`, the most that a reader reads ahead of its lines, is 8,192 bytes.
+pub fn piece_is_8192()
+    ensures piece { PIECE ≡ 8192 }
+{}
+
+/// `LIMIT`, below which a message must stay, is 2^61 bytes, and contents are cut (`clip`) by the same number.
+#[tactic(auto, unfolding(sum_sources::specs::Content::limit))]
+pub fn limit_is_2_to_61()
+    ensures limit { LIMIT ≡ 2 ^ 61 }
+    ensures clip { limit ≡ 2 ^ 61 }
+{}
 
 /// The log of a reader whose bytes are known has what it gave: a read gives the first of the bytes that were left, and
 /// an end only if none was.

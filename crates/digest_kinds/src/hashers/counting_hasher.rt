@@ -25,11 +25,11 @@ pub trait DigestState: Drop {
 
     /// Creates the state of the empty message.
     fn new() -> Self
-        ensures { holds result [] };
+        ensures holds { holds result [] };
 
     /// Takes the message's next piece.
     fn update(&mut self, piece: &[u8])
-        ensures { (m : ByteString) → holds self.old m → holds self.new (m ++ piece.now) };
+        ensures holds { (m : ByteString) → holds self.old m → holds self.new (m ++ piece.now) };
 
     /// Returns the digest of the message that was taken.
     fn finish(self) -> Digest
@@ -54,7 +54,7 @@ impl<D> Model for CountingHasher<D> {
 impl<D: DigestState> CountingHasher<D> {
     /// Creates a hasher of the empty message.
     pub fn new() -> Self
-        ensures { ⟦<CountingHasher<D> as Hasher>⟧.holds result [] }
+        ensures holds { ⟦<CountingHasher<D> as Hasher>⟧.holds result [] }
     {
         CountingHasher {
             inner: D::new(),

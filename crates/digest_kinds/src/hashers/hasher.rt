@@ -20,11 +20,11 @@ pub trait Hasher {
 
     /// Returns the kind of the digest that `finish` returns.
     fn kind(&self) -> Kind
-        ensures { result ≡ kind_of self.now };
+        ensures kind { result ≡ kind_of self.now };
 
     /// Returns the number of bytes taken so far.
     fn taken(&self) -> u64
-        ensures { result ≡ taken_of self.now };
+        ensures taken { result ≡ taken_of self.now };
 
     /// Takes the message's next piece. The whole message must stay below [`LIMIT`](crate::LIMIT) bytes.
     fn update(&mut self, piece: &[u8])

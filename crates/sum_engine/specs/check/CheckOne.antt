@@ -14,7 +14,7 @@ use Rattle.sum_engine.specs.check.{Judge.names_in_line, Judge.all_verdicts, Repo
 use Rattle.sum_engine.specs.check.{Rules.LabelsValue, Rules.rules_of, Rules.labels_of, Rules.CheckRules}
 use Rattle.sum_engine.specs.check.{Summary.end_text}
 
--- the steps of a content: one for each line, by these verdicts, and one for the end, which has this text
+-- the steps for what is left of a manifest: one for each line, by its verdict, and one that writes `end`
 abbrev pub line_steps : CheckRules → LabelsValue → ByteString → Content → List LineVerdictValue → List Step
 line_steps rules labels end content [] =
     record { names = []; err = end; out = []; manifest_left = length content.bytes } ∷ []
@@ -34,7 +34,7 @@ content_behavior rules labels content verdicts = let counts = counts_of verdicts
   good = is_manifest_good rules content.ending counts;
 }
 
--- the behavior of the manifest of this name, opened with this answer, in the world after that opening
+-- the behavior of checking a manifest: the opening of its name gave this answer, and left this world
 abbrev pub check_behavior_by : CheckRules → LabelsValue → ByteString → World → AnswerValue → Behavior
 check_behavior_by rules labels name world (Err fault) =
     single_step (name ∷ []) (name_fault_line labels.tool labels.manifest fault) [] false

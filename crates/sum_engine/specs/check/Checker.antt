@@ -35,7 +35,7 @@ remaining_behavior rules labels state =
 
 -- the behavior that begins with this step, and then is that of another
 abbrev pub behavior_from : Step → Behavior → Behavior
-behavior_from step later = record { steps = step ∷ later.steps; good = later.good }
+behavior_from step behavior = record { steps = step ∷ behavior.steps; good = behavior.good }
 
 -- what a step returns before these steps: Going, if there are any, and otherwise whether all is good
 abbrev pub progress_before : List Step → Bool → Progress

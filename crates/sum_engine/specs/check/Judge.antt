@@ -2,8 +2,7 @@
 use Rattle.std.specs.Prelude.{ℕ, ◌+◌, ◌≤◌, ◌&&◌, Bool, true, false, List, [], ◌∷◌, length, Result, Ok, Err}
 use Rattle.std.specs.Prelude.{if◌then◌else◌, bytes_eq, slice_range, map}
 use Rattle.digest_kinds.specs.{Bytes.ByteString, declared.algo.Algos.Algos}
-use Rattle.sum_lines.specs.grammar.{Entries.EntryValue, Form.form_of, ParsedLines.ParsedLine, ParsedLines.ignored}
-use Rattle.sum_lines.specs.grammar.{ParsedLines.bad, ParsedLines.entry, ParsedLines.parse_line}
+use Rattle.sum_lines.specs.grammar.{Entries.EntryValue, Form.form_of, ParsedLines.ParsedLine, ParsedLines.parse_line}
 use Rattle.sum_sources.specs.{declared.fault.Fault.Fault, declared.fault.Fault.TheVariants.NotFound}
 use Rattle.sum_sources.specs.{inputs.Input.Content, sources.Source.AnswerValue, sources.WithStdin.is_dash}
 use Rattle.sum_sources.specs.LineReader.{lines_in}
@@ -52,9 +51,9 @@ judge rules world listed = let answer = answer_to world listed.name in
 
 -- the verdict of line n, which says this
 abbrev pub line_verdict : CheckRules → World → ℕ → ParsedLine → LineVerdictValue
-line_verdict rules world n ignored = record { number = n; verdict = Ignored; name = [] }
-line_verdict rules world n bad = record { number = n; verdict = Bad; name = [] }
-line_verdict rules world n (entry listed) =
+line_verdict rules world n ParsedLine.ignored = record { number = n; verdict = Ignored; name = [] }
+line_verdict rules world n ParsedLine.bad = record { number = n; verdict = Bad; name = [] }
+line_verdict rules world n (ParsedLine.entry listed) =
     record { number = n; verdict = judge rules world listed; name = listed.name }
 
 -- the names that were opened for a verdict on this name: none for an ignored line or a bad one
@@ -72,13 +71,13 @@ abbrev pub first_names : List LineVerdictValue → List ByteString
 first_names [] = []
 first_names (first ∷ later) = names_in_line first
 
--- the verdicts of the lines after line n, which say this. Each finds the world that the earlier ones leave
+-- the verdicts of the lines after the first n, which say this. Each is judged in the world that the earlier ones leave
 abbrev pub verdicts_of : CheckRules → World → ℕ → List ParsedLine → List LineVerdictValue
 verdicts_of rules world n [] = []
 verdicts_of rules world n (x ∷ xs) = let first = line_verdict rules world (n + 1) x in
     first ∷ verdicts_of rules (world_after world (names_in_line first)) (n + 1) xs
 
--- what the lines of a content say, in a list of the form of them all
+-- what each line of a content says. The form of all its lines decides how a plain one is read
 abbrev pub parsed_content : Algos → Content → List ParsedLine
 parsed_content algos content = map (parse_line algos (form_of algos (lines_in content))) (lines_in content)
 

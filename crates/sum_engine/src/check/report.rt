@@ -3,7 +3,7 @@ ghost use Rattle.std.specs.{List.concat, Prelude.◌≡◌, Prelude.[], Prelude.
 ghost use Rattle.sum_engine.specs.{Streams.WritesAndReturns, check.Checker.Going};
 ghost use Rattle.sum_engine.specs.check.Report.{bad_line, err_by, out_by, tag_word};
 ghost use Rattle.sum_lines.specs.{Escape.escape, Escape.escape_differs, grammar.Shapes.backslash_if};
-ghost use Rattle.sum_lines.specs.{sinks.Output.GivesAll};
+ghost use Rattle.sum_lines.specs.sinks.GivesAll.{GivesAll};
 ghost use Rattle.sum_settings.specs.declared.settings.Report.TheVariants.{All};
 
 use crate::check::judge::Verdict;

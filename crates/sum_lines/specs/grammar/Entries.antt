@@ -25,8 +25,8 @@ pub record EntryValue : Type 0 where
 -- a line spells an entry in a list of that form: the line's raw name spells the entry's name, which has no NUL
 pub record IsEntry (escaping : ByteString → ByteString) (algos : Algos) (form : Form) (line : ByteString)
     (listed : EntryValue) : Type 0 where
-  pub escaped : Bool
-  pub raw : ByteString
+  pub escaped : Bool  -- whether a backslash begins the line, so that its name is escaped
+  pub raw : ByteString  -- the name as it stands in the line
   pub shape : IsTagged algos line escaped listed.kind listed.digest raw
       ⊎ ((tail : ByteString) × IsPlain algos line escaped listed.kind listed.digest tail × IsRawName form tail raw)
   pub no_nul : All (λ b. 0 < b) listed.name

@@ -8,7 +8,7 @@ use Rattle.digest_kinds.specs.{declared.algo.Algos.Algos, declared.algo.Algos.Th
 use Rattle.digest_kinds.specs.{declared.algo.Algos.TheVariants.Any}
 use Rattle.sum_settings.specs.declared.style.Mode.{Mode, TheVariants.Tag}
 use Rattle.sum_lines.specs.grammar.{Form.Form, Form.Undecided, Form.Standard, Form.IsForm, Form.form_of}
-use Rattle.sum_lines.specs.grammar.{ParsedLines.ParsedLine, ParsedLines.ignored, ParsedLines.entry}
+use Rattle.sum_lines.specs.grammar.{ParsedLines.ParsedLine}
 use Rattle.sum_lines.specs.grammar.{ParsedLines.parse_line, Entries.EntryValue, Entries.IsEntry, Entries.is_ignored}
 use Rattle.sum_lines.specs.{grammar.Shapes.IsPlain, grammar.Shapes.IsTagged, Escape.escape}
 use Rattle.sum_lines.specs.writing.PutLine.{digest_line}
@@ -26,13 +26,13 @@ HasOneShape = (algos others : Algos) (line : ByteString) (escaped marked : Bool)
 
 -- a list of lines has one form, which is the computed one
 abbrev pub HasOneForm : Type 0
-HasOneForm = (algos : Algos) (lines : List ByteString) (found : Form) → IsForm algos lines found
-    ↔ (found ≡ form_of algos lines)
+HasOneForm = (algos : Algos) (lines : List ByteString) (form : Form) → IsForm algos lines form
+    ↔ (form ≡ form_of algos lines)
 
 -- what is said of a line fits the grammar: it is ignored, or an entry, each if and only if the grammar says so
 pub record FitsGrammar (algos : Algos) (form : Form) (line : ByteString) (said : ParsedLine) : Type 0 where
-  pub when_ignored : (said ≡ ignored) ↔ IsTrue (is_ignored line)
-  pub when_entry : (found : EntryValue) → (said ≡ entry found) ↔ IsEntry escape algos form line found
+  pub when_ignored : (said ≡ ParsedLine.ignored) ↔ IsTrue (is_ignored line)
+  pub when_entry : (listed : EntryValue) → (said ≡ ParsedLine.entry listed) ↔ IsEntry escape algos form line listed
 
 -- what is computed for a line is what the grammar says of it
 abbrev pub ParsesByGrammar : Type 0
@@ -54,8 +54,8 @@ pub record IsWritable (kind : KindValue) (name digest : ByteString) : Type 0 whe
 
 -- what a line spells can be written again
 abbrev pub EntryIsWritable : Type 0
-EntryIsWritable = (algos : Algos) (form : Form) (line : ByteString) (found : EntryValue)
-    → IsEntry escape algos form line found → IsWritable found.kind found.name found.digest
+EntryIsWritable = (algos : Algos) (form : Form) (line : ByteString) (listed : EntryValue)
+    → IsEntry escape algos form line listed → IsWritable listed.kind listed.name listed.digest
 
 -- what precedes the text's newline is one line that spells only that entry; the form stays Undecided or Standard
 pub record SpellsBack (algos : Algos) (before later : List ByteString) (text : ByteString) (kind : KindValue)
@@ -63,8 +63,8 @@ pub record SpellsBack (algos : Algos) (before later : List ByteString) (text : B
   pub prefix : ByteString
   pub whole : text ≡ prefix ++ codes "\n"
   pub one_line : All (λ b. (b ≢ byte "\n") × (b ≢ byte "\r")) prefix
-  pub spells : (found : EntryValue) → IsEntry escape algos (form_of algos (before ++ (prefix ∷ later))) prefix found
-      ↔ (found ≡ record { kind = kind; digest = digest; name = name })
+  pub spells : (listed : EntryValue) → IsEntry escape algos (form_of algos (before ++ (prefix ∷ later))) prefix listed
+      ↔ (listed ≡ record { kind = kind; digest = digest; name = name })
   pub keeps : (form_of algos (before ++ (prefix ∷ [])) ≡ Undecided)
       ⊎ (form_of algos (before ++ (prefix ∷ [])) ≡ Standard)
 

@@ -36,15 +36,15 @@ abbrev pub Allows : Algos → Algo → Type 0
 Allows (One only) algo = algo ≡ only
 Allows Any algo = ⊤
 
--- A tagged line: the tag with its width, a name in parentheses, `=`, and the digits, up to the line's end. The name
--- isn't empty. A space may precede the parenthesis, and blanks may stand before and after `=`.
+-- A tagged line, as `BLAKE2b-8 (a) = 0f`: the tag with its width, a name in parentheses, `=`, and the digits, up to the
+-- line's end. The name isn't empty. A space may precede the parenthesis, and blanks may stand before and after `=`.
 pub record IsTagged (algos : Algos) (line : ByteString) (escaped : Bool) (kind : KindValue)
     (digest raw : ByteString) : Type 0 where
   pub blanks : ByteString
   pub width : ByteString
-  pub gap : Bool
-  pub before : ByteString
-  pub after : ByteString
+  pub gap : Bool  -- whether a space precedes the parenthesis
+  pub before : ByteString  -- the blanks before `=`
+  pub after : ByteString  -- those after it
   pub digits : ByteString
   pub allowed : Allows algos kind.algo
   pub are_blanks : AllPass is_blank blanks

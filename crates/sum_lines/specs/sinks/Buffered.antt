@@ -1,7 +1,8 @@
 -- A buffer over a sink.
 use Rattle.std.specs.Prelude.{◌≡◌, ◌<◌, ◌%◌, [], ◌++◌, length, IsTrue, ⊤, Result, Ok, Err}
 use Rattle.digest_kinds.specs.Bytes.{ByteString}
-use Rattle.sum_lines.specs.{declared.sinks.buffered.TheConstants.CAPACITY, sinks.Output.GivesAll, sinks.Sink.SinkState}
+use Rattle.sum_lines.specs.{declared.sinks.buffered.TheConstants.CAPACITY, sinks.Sink.SinkState}
+use Rattle.sum_lines.specs.sinks.GivesAll.{GivesAll}
 
 -- a buffer's state: that of the sink below it, and the bytes that are buffered
 pub record BufferState : Type 0 where

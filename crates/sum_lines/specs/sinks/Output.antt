@@ -1,6 +1,5 @@
 -- What an output got, and which events happened to it.
-use Rattle.std.specs.Prelude.{ℕ, ◌≡◌, ◌<◌, ◌+◌, ⊤, ◌⊎◌, List, [], ◌∷◌, ◌++◌, length, filter_map, Option, None, Some}
-use Rattle.std.specs.Prelude.{Result, Ok, Err}
+use Rattle.std.specs.Prelude.{ℕ, ◌≡◌, ◌<◌, ◌⊎◌, List, [], ◌∷◌, ◌++◌, length, filter_map, Option, None, Some}
 use Rattle.digest_kinds.specs.Bytes.{ByteString}
 pub use Rattle.sum_lines.specs.sinks.Texts.{OutputEvent, offer_piece, write_byte, pieces_of, byte_events, output_events}
 
@@ -12,27 +11,17 @@ pub record OutputState : Type 0 where
 
 -- the byte that an event writes
 abbrev pub written_byte : OutputEvent → Option ℕ
-written_byte (write_byte b left) = Some b
+written_byte (OutputEvent.write_byte b left) = Some b
 written_byte event = None
 
 -- exactly the pieces of these events were offered, in order; but what a write left of a piece may be offered again
 abbrev pub OffersEach : List ByteString → List ByteString → List OutputEvent → Type 0
 OffersEach before after [] = after ≡ before
-OffersEach before after (offer_piece piece ∷ events) = OffersEach (before ++ piece ∷ []) after events
-OffersEach before after (write_byte b left ∷ events) =
+OffersEach before after (OutputEvent.offer_piece piece ∷ events) = OffersEach (before ++ piece ∷ []) after events
+OffersEach before after (OutputEvent.write_byte b left ∷ events) =
     OffersEach before after events ⊎ ((0 < length left) × OffersEach (before ++ left ∷ []) after events)
 
 -- these events happened
 pub record Gets (before after : OutputState) (events : List OutputEvent) : Type 0 where
   pub offered : OffersEach before.offered after.offered events
   pub written : after.written ≡ before.written ++ filter_map written_byte events
-
--- a prefix of these events happened
-abbrev pub GetsPrefix : OutputState → OutputState → List OutputEvent → Type 0
-GetsPrefix before after events = (prefix rest : List OutputEvent) × (events ≡ prefix ++ rest) × Gets before after prefix
-
--- a call gives an output a text: all of its events happened; or a call of the sink failed after a prefix of them
-abbrev pub GivesAll : {E : Type 0} → OutputState → OutputState → ByteString → Result ⊤ E → Type 0
-GivesAll before after text (Ok done) = Gets before after (output_events text) × (after.failures ≡ before.failures)
-GivesAll before after text (Err fault) =
-    GetsPrefix before after (output_events text) × (after.failures ≡ before.failures + 1)

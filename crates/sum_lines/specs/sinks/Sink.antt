@@ -8,7 +8,7 @@ pub record SinkState : Type 0 where
   pub output : OutputState
   pub flushed : Bool
 
--- a write offers a piece: its first bytes are accepted, at least one if it isn't empty; or the write fails
+-- a write offers a piece, and writes its first n bytes, at least one if it has any; or it fails, and writes none
 abbrev pub WritesSome : {E : Type 0} → SinkState → SinkState → ByteString → Result ℕ E → Type 0
 WritesSome before after piece (Ok n) = (n ≤ length piece) × (0 < length piece → 0 < n) × (let got = before.output in
     let output = record got { offered = got.offered ++ piece ∷ []; written = got.written ++ take n piece } in

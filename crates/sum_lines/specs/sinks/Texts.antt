@@ -16,8 +16,8 @@ pub data OutputEvent : Type 0 where
 -- the events of a piece's bytes, which are written one after another
 abbrev pub byte_events : ByteString → List OutputEvent
 byte_events [] = []
-byte_events (b ∷ left) = write_byte b left ∷ byte_events left
+byte_events (b ∷ left) = OutputEvent.write_byte b left ∷ byte_events left
 
 -- the events of a text: each piece is offered, and then its bytes are written
 abbrev pub output_events : ByteString → List OutputEvent
-output_events text = flat_map (λ piece. offer_piece piece ∷ byte_events piece) (pieces_of text)
+output_events text = flat_map (λ piece. OutputEvent.offer_piece piece ∷ byte_events piece) (pieces_of text)

@@ -2,7 +2,7 @@
 ghost use Rattle.std.specs.Prelude.{◌≡◌, ◌<◌, ◌≤◌, ◌-◌, ◌+◌, ◌++◌, [], length, min, take, IsTrue, OnErr, MatchResult};
 ghost use Rattle.sum_lines.specs.sinks.Buffered.{Accepts, FailsToWrite, IsFlushed, WritesAll};
 ghost use Rattle.sum_lines.specs.private.Buffered.{MakesRoom};
-ghost use Rattle.sum_lines.specs.sinks.Output.{GivesAll};
+ghost use Rattle.sum_lines.specs.sinks.GivesAll.{GivesAll};
 
 use crate::sinks::sink::{Sink, SinkFault, give_all};
 use std::marker::Model;

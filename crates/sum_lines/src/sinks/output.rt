@@ -1,7 +1,8 @@
 //! An output, to which whole texts are written.
 ghost use Rattle.digest_kinds.specs.Bytes.{ByteString};
 ghost use Rattle.std.specs.Prelude.{◌≡◌, true, IsTrue};
-ghost use Rattle.sum_lines.specs.sinks.{Buffered.WritesAll, Output.GivesAll};
+ghost use Rattle.sum_lines.specs.sinks.{Buffered.WritesAll};
+ghost use Rattle.sum_lines.specs.sinks.GivesAll.{GivesAll};
 
 use crate::sinks::buffered::Buffered;
 use crate::sinks::sink::{Sink, SinkFault};

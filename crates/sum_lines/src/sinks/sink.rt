@@ -1,6 +1,7 @@
 //! The trait of a sink, to which bytes are written.
 ghost use Rattle.std.specs.Prelude.{◌≡◌, ◌≤◌, [], Ok, IsTrue, OnErr, length};
-ghost use Rattle.sum_lines.specs.{declared.sinks.buffered.TheConstants.CAPACITY, sinks.Output.GivesAll};
+ghost use Rattle.sum_lines.specs.{declared.sinks.buffered.TheConstants.CAPACITY};
+ghost use Rattle.sum_lines.specs.sinks.GivesAll.{GivesAll};
 ghost use Rattle.sum_lines.specs.sinks.Sink.{SinkState, WritesSome, Flushes};
 
 use sum_settings::Stop;

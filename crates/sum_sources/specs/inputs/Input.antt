@@ -1,15 +1,11 @@
 -- What the reads of inputs gave, and which contents that fits.
-use Rattle.std.specs.Prelude.{ℕ, zero, suc, ◌≡◌, [], ◌++◌, take, drop, length, Option, None, ⊤, Result, Ok, Err, IfSome}
+use Rattle.std.specs.Prelude.{ℕ, zero, suc, ◌≡◌, [], ◌++◌, take, drop, length, Option, ⊤, Result, Ok, Err, IfSome}
 use Rattle.std.specs.Result.{result_unwrap_or}
 use Rattle.digest_kinds.specs.Bytes.{ByteString}
 use Rattle.sum_sources.specs.Fault.{Fault, Whole, Broken}
 pub use Rattle.sum_sources.specs.Content.{Content, limit, clip}
 pub use Rattle.sum_sources.specs.declared.inputs.input.Phase.{Phase, TheVariants.Unfinished, TheVariants.Ended}
 pub use Rattle.sum_sources.specs.declared.inputs.input.Phase.{TheVariants.Past}
-
--- no bytes, and a whole ending
-abbrev pub empty_content : Content
-empty_content = record { bytes = []; ending = Whole }
 
 -- the phase after a read into a buffer of this size: Past if the buffer is empty, or if the input had ended before
 abbrev pub phase_after : Phase → ℕ → Result ℕ Fault → Phase
@@ -37,11 +33,6 @@ IsReadTo Unfinished bytes content = (rest : ByteString) × (content.bytes ≡ by
 IsReadTo (Ended ending) bytes content = content ≡ record { bytes = bytes; ending = ending }
 IsReadTo Past bytes content = ⊤
 
--- what the reads of a content gave: its first n bytes so far; or all of them, and then its ending
-abbrev pub told_reads : Content → ℕ → Phase → Reads
-told_reads content n (Ended ending) = record { bytes = content.bytes; phase = Ended content.ending }
-told_reads content n phase = record { bytes = take n content.bytes; phase = phase }
-
 -- these reads fit this content
 abbrev pub Fits : Reads → Content → Type 0
 Fits reads content = IsReadTo reads.phase reads.bytes content
@@ -53,11 +44,7 @@ pub record InputState : Type 0 where
   pub told : Option Content  -- its content, if that is in memory
   pub reads : Reads
 
--- the state of an unread input that no source opened, and that isn't in memory
-abbrev pub no_reads : InputState
-no_reads = record { nth = 0; name = []; told = None; reads = empty_reads }
-
--- the state after one more read, which left this buffer: it gave as many of the buffer's first bytes as it returned
+-- the state after one more read, which left this buffer. If it returned n, it gave the buffer's first n bytes
 abbrev pub state_after_read : InputState → ByteString → Result ℕ Fault → InputState
 state_after_read input buffer result = let reads = input.reads in
     let bytes = reads.bytes ++ take (result_unwrap_or result 0) buffer in

@@ -9,7 +9,8 @@ use Rattle.sum_sources.specs.declared.sources.stdin_or_file.StdinOrFile.TheVaria
 use Rattle.sum_sources.specs.{inputs.Told.ToldValue, inputs.Told.told_state, inputs.Stdin.closable_state, Fault.Whole}
 use Rattle.sum_sources.specs.{sources.StdinOrFile.stdin_or_file_state}
 use Rattle.sum_sources.specs.declared.sources.stdin_or_file.StdinOrFile.TheVariants.{File}
-use Rattle.sum_sources.specs.inputs.Input.{Content, InputState, HasContent, Fits, IsReadTo, told_reads, empty_content}
+use Rattle.sum_sources.specs.inputs.Input.{Content, InputState, HasContent, Fits, IsReadTo}
+use Rattle.sum_sources.specs.inputs.InputLog.{told_reads, empty_content}
 use Rattle.sum_sources.specs.inputs.Input.{Phase, Unfinished, Ended, Past}
 
 -- what reads of a content gave fits it

@@ -1,8 +1,13 @@
 -- Standard input: before, when and after it is taken.
-use Rattle.std.specs.Prelude.{Bool, true, false, not, ◌≡◌, [], Option, None, Some}
+use Rattle.std.specs.Prelude.{pos, Bool, true, false, not, ◌≡◌, [], Option, None, Some}
 use Rattle.sum_sources.specs.{inputs.Input.Unfinished, inputs.Input.Content, inputs.Input.InputState}
-use Rattle.sum_sources.specs.{inputs.Input.empty_reads, inputs.Input.told_reads, Fault.Whole}
+use Rattle.sum_sources.specs.{inputs.Input.empty_reads, Fault.Fault, Fault.Os, Fault.Whole}
+use Rattle.sum_sources.specs.inputs.InputLog.{told_reads}
 use Rattle.sum_sources.specs.declared.inputs.stdin.Closable.{TheVariants.Open, TheVariants.Closed, Closable}
+
+-- the fault of a descriptor that isn't open, EBADF
+abbrev pub bad_descriptor : Fault
+bad_descriptor = Os (pos 9)
 
 -- the state of an input that may be closed. A closed one has no bytes, and the ending that it holds
 abbrev pub closable_state : {I : Type 0} → (I → InputState) → Closable I → InputState

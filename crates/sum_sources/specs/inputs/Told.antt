@@ -2,7 +2,8 @@
 use Rattle.std.specs.Prelude.{ℕ, Some}
 use Rattle.digest_kinds.specs.Bytes.{ByteString}
 use Rattle.sum_sources.specs.{declared.inputs.told.Told.Told, inputs.Input.Phase, inputs.Input.Content}
-use Rattle.sum_sources.specs.{inputs.Input.InputState, inputs.Input.told_reads}
+use Rattle.sum_sources.specs.{inputs.Input.InputState}
+use Rattle.sum_sources.specs.inputs.InputLog.{told_reads}
 
 -- an input in memory
 pub record ToldValue : Type 0 where

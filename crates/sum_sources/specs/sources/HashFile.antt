@@ -2,7 +2,8 @@
 use Rattle.std.specs.Prelude.{◌≡◌, Some, Result, Ok, Err}
 use Rattle.digest_kinds.specs.{Bytes.ByteString, Kind.KindValue}
 use Rattle.sum_sources.specs.{Fault.Fault, inputs.HashInput.HashesInput, inputs.Input.Reads, sources.Source.SourceState}
-use Rattle.sum_sources.specs.{sources.Source.no_answer, sources.Source.opened_file, sources.Source.state_with_opening}
+use Rattle.sum_sources.specs.{sources.Source.opened_file, sources.Source.state_with_opening}
+use Rattle.sum_sources.specs.sources.SourceLog.{no_answer}
 use Rattle.sum_sources.specs.{sources.Source.state_after_opening}
 pub use Rattle.sum_sources.specs.declared.sources.hash_file.HashFault.{HashFault}
 use Rattle.sum_sources.specs.declared.sources.hash_file.HashFault.TheVariants as hashing

@@ -27,7 +27,7 @@ names_of openings = map (λ o. o.name) openings
 abbrev pub results_of : List Opening → ByteString → List (Option (Result Reads Fault))
 results_of openings name = filter_map (λ o. if bytes_eq o.name name then Some o.gave else None) openings
 
--- what opening a name gave after k earlier openings of it
+-- what opening a name gave after k earlier openings of it; `None` if that opening isn't there, or its file isn't closed
 abbrev pub result_at : List Opening → ByteString → ℕ → Option (Result Reads Fault)
 result_at openings name k = option_flatten (slice_get (results_of openings name) k)
 
@@ -44,10 +44,6 @@ ToldAnswers = List ToldAnswer → ByteString → ℕ → Option AnswerValue
 -- all answers are told, and they are these
 abbrev pub TellsAll : ToldAnswers → List ToldAnswer → Answers → Type 0
 TellsAll tells told answer = (name : ByteString) (k : ℕ) → tells told name k ≡ Some (answer name k)
-
--- no answer is told
-abbrev pub no_answer : ToldAnswers
-no_answer told name k = None
 
 -- what a list of pairs answers: the first pair with the name whose number is at most k decides; if there is none, the
 -- answer is NotFound
@@ -66,15 +62,12 @@ pub record SourceState : Type 0 where
   pub openings : List Opening  -- in their order
   pub refusals : ℕ  -- how many openings were refused memory
 
--- the state of a source without openings that isn't in memory
-abbrev pub no_openings : SourceState
-no_openings = record { told = []; openings = []; refusals = 0 }
-
 -- what an opening gave fits an answer: what was read fits its content, or the fault is the answer
 abbrev pub FitsAnswer : AnswerValue → Result Reads Fault → Type 0
-FitsAnswer answer gave = MatchResult gave (λ r. (c : Content) × (answer ≡ Ok c) × Fits r c) (λ f. answer ≡ Err f)
+FitsAnswer answer gave = MatchResult gave (λ r. (content : Content) × (answer ≡ Ok content) × Fits r content)
+    (λ f. answer ≡ Err f)
 
--- what each opening gave fits the answer, if one is told
+-- if an answer is told for an opening, and the opening gave something, then that fits the answer
 abbrev pub GivesTold : ToldAnswers → SourceState → Type 0
 GivesTold tells source = (name : ByteString) (k : ℕ)
     → IfSome (tells source.told name k) (λ told. IfSome (result_at source.openings name k) (FitsAnswer told))
@@ -90,8 +83,8 @@ opened_file tells source name = let k = times name (names_of source.openings) in
 
 -- the source with one more opening
 abbrev pub state_with_opening : SourceState → ByteString → Option (Result Reads Fault) → SourceState
-state_with_opening state name gave = let opening : Opening = record { name = name; gave = gave } in
-    record state { openings = state.openings ++ opening ∷ [] }
+state_with_opening source name gave = let opening : Opening = record { name = name; gave = gave } in
+    record source { openings = source.openings ++ opening ∷ [] }
 
 -- the source after it opened a name; if memory was refused, that is no opening
 abbrev pub state_after_opening : {F : Type 0} → SourceState → ByteString → Result F OpenFault → SourceState
@@ -104,7 +97,7 @@ pub record IsOpen (tells : ToldAnswers) (source : SourceState) (file : InputStat
   pub is_open : slice_get (results_of source.openings file.name) file.nth ≡ Some None
   pub told : file.told ≡ content_at tells source file.name file.nth
 
--- the openings after a file was closed: of those of its name, the one that has k others before it gave these reads
+-- the openings after a file was closed: its own, which has k of its name before it, gave `reads`. k counts down to it
 abbrev pub openings_after_closing : List Opening → ByteString → ℕ → Reads → List Opening
 openings_after_closing [] name k reads = []
 openings_after_closing (x ∷ xs) name zero reads = if bytes_eq x.name name then record x { gave = Some (Ok reads) } ∷ xs
@@ -114,5 +107,5 @@ openings_after_closing (x ∷ xs) name (suc k) reads =
 
 -- the source after this file was closed
 abbrev pub state_after_closing : SourceState → InputState → SourceState
-state_after_closing state file = let openings = state.openings in
-    record state { openings = openings_after_closing openings file.name file.nth file.reads }
+state_after_closing source file = let openings = source.openings in
+    record source { openings = openings_after_closing openings file.name file.nth file.reads }

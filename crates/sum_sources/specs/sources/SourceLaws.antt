@@ -7,7 +7,8 @@ use std.HLevel.{Π_prop, Σ_prop_path}
 use Rattle.digest_kinds.specs.Bytes.{ByteString}
 use Rattle.sum_sources.specs.inputs.Input.{Content, Phase, Unfinished, Ended, Past, Reads, InputState, IsReadTo, Fits}
 use Rattle.sum_sources.specs.sources.Source.{AnswerValue, ToldAnswers, SourceState, Opening, FitsAnswer, GivesTold}
-use Rattle.sum_sources.specs.sources.Source.{results_of, result_at, no_answer}
+use Rattle.sum_sources.specs.sources.Source.{results_of, result_at}
+use Rattle.sum_sources.specs.sources.SourceLog.{no_answer}
 use Rattle.sum_sources.specs.{sources.WithStdin.is_dash, sources.WithStdin.other_openings}
 use Rattle.sum_sources.specs.{sources.WithStdin.answer_of_both, sources.WithStdin.with_stdin_state}
 use Rattle.sum_sources.specs.{sources.WithStdin.IsSoundWithStdin, Fault.Fault, inputs.Stdin.StdinValue}

@@ -1,8 +1,17 @@
 -- The log of a source, which only proofs see.
-use Rattle.std.specs.Prelude.{◌+◌, None, Some, Err}
+use Rattle.std.specs.Prelude.{◌+◌, [], None, Some, Err}
 use Rattle.sum_sources.specs.declared.sources.source_log.Note.{Note, TheVariants.Opened, TheVariants.Failed}
 use Rattle.sum_sources.specs.declared.sources.source_log.Note.{TheVariants.Closed, TheVariants.Refused}
-use Rattle.sum_sources.specs.sources.Source.{SourceState, state_with_opening, state_after_closing}
+use Rattle.sum_sources.specs.sources.Source.{SourceState, ToldAnswers, state_with_opening}
+use Rattle.sum_sources.specs.sources.Source.{state_after_closing}
+
+-- the state of a source without openings that isn't in memory
+abbrev pub no_openings : SourceState
+no_openings = record { told = []; openings = []; refusals = 0 }
+
+-- no answer is told
+abbrev pub no_answer : ToldAnswers
+no_answer told name k = None
 
 -- the state of a source after one more note
 abbrev pub state_after_note : SourceState → Note → SourceState

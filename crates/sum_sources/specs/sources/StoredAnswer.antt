@@ -14,6 +14,6 @@ answer_view (answers.Content content ending) = Ok (record { bytes = content.now;
 abbrev pub pair_view : {A : Type 0} → StoredAnswer A → ToldAnswer
 pair_view pair = record { name = pair.name.items; from = pair.from; answer = Some (answer_view pair.answer) }
 
--- the state of a source with these pairs and this log
+-- the state of a source whose log has this state, with these pairs
 abbrev pub state_with_pairs : {A : Type 0} → List (StoredAnswer A) → SourceState → SourceState
-state_with_pairs pairs log = record log { told = map pair_view pairs }
+state_with_pairs pairs source = record source { told = map pair_view pairs }

@@ -4,7 +4,8 @@ use Rattle.std.specs.Prelude.{Result, Ok, IfSome, if◌then◌else◌, option_ma
 use Rattle.sum_sources.specs.{Fault.Fault}
 use Rattle.sum_sources.specs.declared.sources.stdin_or_file.StdinOrFile.{StdinOrFile}
 use Rattle.sum_sources.specs.declared.sources.stdin_or_file.StdinOrFile.TheVariants.{Stdin, File}
-use Rattle.sum_sources.specs.inputs.{Input.Content, Input.InputState, Input.Reads, Input.empty_content}
+use Rattle.sum_sources.specs.inputs.{Input.Content, Input.InputState, Input.Reads}
+use Rattle.sum_sources.specs.inputs.InputLog.{empty_content}
 use Rattle.sum_sources.specs.inputs.{Stdin.StdinValue, Stdin.closable_state, Stdin.given_input, Stdin.is_untaken}
 use Rattle.sum_sources.specs.inputs.{Stdin.stdin_after_taking, Stdin.stdin_after_put_back}
 use Rattle.sum_sources.specs.sources.Source.{result_at, Answers, ToldAnswer, ToldAnswers, SourceState, Opening}
@@ -16,7 +17,7 @@ abbrev pub first_or_later : {A : Type 0} → A → A → ℕ → A
 first_or_later first later zero = first
 first_or_later first later (suc k) = later
 
--- what both have in memory
+-- what both have in memory: first what standard input tells, as the answer to `-`, and then what the source has
 abbrev pub pairs_with_stdin : Option Content → List ToldAnswer → List ToldAnswer
 pairs_with_stdin stdin told = record { name = codes "-"; from = 0; answer = option_map Ok stdin } ∷ told
 
@@ -28,9 +29,10 @@ answer_of_both tells (stdin ∷ told) name k =
 
 -- the answers of both, if all are told
 abbrev pub answers_with : Content → Answers → Answers
-answers_with told answer name k = if is_dash name then first_or_later (Ok told) (Ok empty_content) k else answer name k
+answers_with content answer name k =
+    if is_dash name then first_or_later (Ok content) (Ok empty_content) k else answer name k
 
--- the state of both: standard input at first, what was opened so far, and the source
+-- the state of both as one source: by standard input at first, the log of what both opened, and the source's state
 abbrev pub with_stdin_state : {I : Type 0} → (I → InputState) → StdinValue I → SourceState → SourceState → SourceState
 with_stdin_state state_of first log source = let stdin = (closable_state state_of (given_input first)).told in
     record source { told = pairs_with_stdin stdin source.told; openings = log.openings }
@@ -43,13 +45,13 @@ other_openings openings = filter (λ o. not (is_dash o.name)) openings
 abbrev pub state_without_dash : SourceState → SourceState
 state_without_dash source = record source { openings = other_openings source.openings }
 
--- standard input is as it was at first if `-` wasn't opened, and is taken otherwise
+-- standard input is as it was at first if no opening of `-` is in the list; otherwise it is taken
 abbrev pub IsUntakenUnlessOpened : {I : Type 0} → StdinValue I → StdinValue I → List (Option (Result Reads Fault))
     → Type 0
 IsUntakenUnlessOpened first stdin [] = stdin ≡ first
 IsUntakenUnlessOpened first stdin (x ∷ xs) = is_untaken stdin ≡ false
 
--- what an opening of `-` gave fits its answer, if one is told
+-- what opening `-` gave after k openings of it fits the answer, if one is told: an empty content for each k but 0
 abbrev pub GivesStdin : InputState → ℕ → Option (Result Reads Fault) → Type 0
 GivesStdin untaken k gave = IfSome (first_or_later (option_map Ok untaken.told) (Some (Ok empty_content)) k)
     (λ told. IfSome gave (FitsAnswer told))

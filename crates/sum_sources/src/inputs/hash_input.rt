@@ -10,7 +10,7 @@ use digest_kinds::{Digest, Hasher};
 /// these bytes, or the fault with which the input ends. If `LIMIT` bytes or more remain, that is `Fault::Other`.
 pub fn hash_input<I: Input, H: Hasher + Drop>(input: &mut I, hasher: H) -> Result<Digest, Fault>
     requires { H.holds hasher [] }
-    ensures { HashesInput (H.kind_of hasher) (I.state input.old) (I.state input.new) result }
+    ensures hashed { HashesInput (H.kind_of hasher) (I.state input.old) (I.state input.new) result }
 {
     let mut buffer: [u8; PIECE] = [0; PIECE];
     hash_input_with_buffer(input, hasher, &mut buffer)

@@ -39,7 +39,7 @@ pub enum Phase {
 impl Phase {
     /// Returns the phase after a read into a buffer of `size` bytes returned `read`.
     pub fn after(self, size: usize, read: &Result<usize, Fault>) -> Phase
-        ensures { result ≡ phase_after self size read.now }
+        ensures phase { result ≡ phase_after self size read.now }
     {
         if size == 0 {
             return Phase::Past;

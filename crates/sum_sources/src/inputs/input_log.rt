@@ -1,5 +1,6 @@
 //! The log of an input.
-ghost use Rattle.sum_sources.specs.inputs.Input.{InputState, no_reads, state_after_read};
+ghost use Rattle.sum_sources.specs.inputs.Input.{InputState, state_after_read};
+ghost use Rattle.sum_sources.specs.inputs.InputLog.{no_reads};
 
 use crate::Fault;
 use ghost_log::{Log, Notes};

@@ -50,14 +50,14 @@ impl<I> Model for Given<I> {
 
 impl<I: Input> Stdin<I> {
     ghost use Rattle.std.specs.Prelude.{false, Some};
-    ghost use Rattle.sum_sources.specs.Fault.{bad_descriptor};
+    ghost use Rattle.sum_sources.specs.inputs.Stdin.{bad_descriptor};
     ghost use Rattle.sum_sources.specs.declared.inputs.stdin.Closable.TheVariants.{Open, Closed};
     ghost use Rattle.sum_sources.specs.inputs.Input.{empty_reads};
 
     /// Creates a standard input that gives `input`, which hasn't been read, when it is taken.
     pub fn new(input: I) -> Self
         requires { (I.state input).reads ≡ empty_reads }
-        ensures { result ≡ (false, Some (Open input)) }
+        ensures state { result ≡ (false, Some (Open input)) }
     {
         Stdin {
             taken: false,
@@ -68,7 +68,7 @@ impl<I: Input> Stdin<I> {
     /// Creates a standard input that is closed. Each read of what the first [`Stdin::take`] gives fails
     /// with `Fault::Os(EBADF)`, *Bad file descriptor*.
     pub fn closed() -> Self
-        ensures { result ≡ (false, Some (Closed (Ending.Broken bad_descriptor) Phase.Unfinished)) }
+        ensures state { result ≡ (false, Some (Closed (Ending.Broken bad_descriptor) Phase.Unfinished)) }
     {
         Stdin {
             taken: false,
@@ -93,7 +93,7 @@ impl<I: Input + Drop> Stdin<I> {
 
     /// Puts back what `take` gave. It is kept if nothing was put back before, and dropped otherwise.
     pub fn put_back(&mut self, given: Given<I>)
-        ensures { self.new ≡ stdin_after_put_back self.old given }
+        ensures state { self.new ≡ stdin_after_put_back self.old given }
     {
         let Given { input } = given;
         if self.taken && self.input.is_none() {

@@ -1,6 +1,7 @@
 //! An input in memory.
 ghost use Rattle.std.specs.Prelude.{◌≡◌, ◌≤◌, [], length, max, IfOk};
-ghost use Rattle.sum_sources.specs.{Fault.Ending, inputs.Input.told_reads, inputs.Input.Ended, private.Told.GivesFrom};
+ghost use Rattle.sum_sources.specs.{Fault.Ending, inputs.Input.Ended, private.Told.GivesFrom};
+ghost use Rattle.sum_sources.specs.inputs.InputLog.{told_reads};
 
 use crate::inputs::input_log::{InputCalls, InputLog, ReadNote};
 use crate::{Ending, Fault, Input, Phase};
@@ -27,7 +28,7 @@ impl<'a> Told<'a> {
 
     /// Creates an input of the bytes `content`, at most `piece` per read (0 counts as 1), and then `ending`.
     pub fn new(content: &'a [u8], ending: Ending, piece: usize) -> Told<'a>
-        ensures { told_view result ≡ record {
+        ensures state { told_view result ≡ record {
           content = record { bytes = content.entry.now; ending = ending };
           given = 0;
           piece = max piece 1;

@@ -44,8 +44,8 @@ pub fn hash_file<S: Source, H: Hasher + Drop>(
     hasher: H,
 ) -> Result<Digest, HashFault>
     requires { H.holds hasher [] }
-    ensures { HashesFile (H.kind_of hasher) name.now (S.state source.old) (S.state source.new)
-        result }
+    ensures hashed { HashesFile (H.kind_of hasher) name.now (S.state source.old)
+        (S.state source.new) result }
 {
     let mut buffer: [u8; PIECE] = [0; PIECE];
     hash_file_with_buffer(source, name, hasher, &mut buffer)

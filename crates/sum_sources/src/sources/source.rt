@@ -35,7 +35,7 @@ pub trait Source {
     /// Closes a file that this source opened, and keeps what was read of it.
     fn close_file(&mut self, file: Self::File)
         requires { IsOpen tells (state self.old) (Self.File.state file) }
-        ensures { state self.new ≡ state_after_closing (state self.old) (Self.File.state file) };
+        ensures state { state self.new ≡ state_after_closing (state self.old) (Self.File.state file) };
 
     /// Law: what an opening gave fits the answer, if one is told.
     ghost gives_told: { (s : Self) → GivesTold tells (state s) };

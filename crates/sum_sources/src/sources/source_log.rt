@@ -1,6 +1,7 @@
 //! The log of a source.
 ghost use Rattle.std.specs.Prelude.{◌≡◌};
-ghost use Rattle.sum_sources.specs.sources.Source.{opened_file, no_answer};
+ghost use Rattle.sum_sources.specs.sources.Source.{opened_file};
+ghost use Rattle.sum_sources.specs.sources.SourceLog.{no_answer};
 
 use crate::inputs::input_log::{InputCalls, InputLog};
 use crate::{Fault, Input, Source};
@@ -16,7 +17,7 @@ impl Model for SourceCalls {
 
     ghost Value = { SourceState };
 
-    ghost use Rattle.sum_sources.specs.sources.Source.{no_openings};
+    ghost use Rattle.sum_sources.specs.sources.SourceLog.{no_openings};
 
     ghost view = { λ _. no_openings };
 }
@@ -70,7 +71,7 @@ impl<'a> Notes<(&'a SourceLog, &'a [u8])> for InputCalls {
 
 /// Returns the log, without reads, of the file that a source with this log opens next, by this name.
 pub fn next_file(log: &SourceLog, name: &[u8]) -> InputLog
-    ensures { result ≡ opened_file no_answer log.now name.now }
+    ensures file { result ≡ opened_file no_answer log.now name.now }
 {
     Log::of(&InputCalls).with_note(&(log, name))
 }

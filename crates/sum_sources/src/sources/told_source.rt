@@ -44,11 +44,12 @@ fn times<A: Allocator>(names: &[Vec<u8, A>], name: &[u8]) -> usize
 }
 
 impl<'a, A: Allocator + Copy> ToldSource<'a, A> {
-    ghost use Rattle.sum_sources.specs.sources.{Source.no_openings, ToldSource.told_source_state};
+    ghost use Rattle.sum_sources.specs.sources.{ToldSource.told_source_state};
+    ghost use Rattle.sum_sources.specs.sources.SourceLog.{no_openings};
 
     /// Creates a source without names, whose files give at most `piece` bytes per read (0 counts as 1).
     pub fn new(alloc: A, piece: usize) -> ToldSource<'a, A>
-        ensures { told_source_state result ≡ no_openings }
+        ensures state { told_source_state result ≡ no_openings }
     {
         ToldSource {
             pairs: Vec::new(alloc),
@@ -80,7 +81,7 @@ impl<'a, A: Allocator + Copy> ToldSource<'a, A> {
 
     /// Returns the name at place `i`, counted from 0, of the names opened so far.
     pub fn asked_name(&self, i: usize) -> Option<&[u8]>
-        ensures { option_map (λ n. n.now) result
+        ensures name { option_map (λ n. n.now) result
             ≡ slice_get (names_of (told_source_state self.now).openings) i }
     {
         Some(self.asked.get(i)?.as_slice())

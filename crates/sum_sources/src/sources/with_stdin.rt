@@ -68,7 +68,7 @@ impl<I: Input, S: Source> WithStdin<I, S> {
 
 /// Returns whether the name is that of standard input, `-`.
 pub fn is_dash(name: &[u8]) -> bool
-    ensures { result ≡ is_dash name.now }
+    ensures value { result ≡ is_dash name.now }
 {
     b"-".as_slice() == name
 }

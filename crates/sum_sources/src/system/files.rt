@@ -1,6 +1,7 @@
 //! Real files. Nothing else can open one, or set the log of what was opened.
 ghost use Rattle.std.specs.Prelude.{◌≡◌};
-ghost use Rattle.sum_sources.specs.sources.Source.{no_openings, SourceState};
+ghost use Rattle.sum_sources.specs.sources.Source.{SourceState};
+ghost use Rattle.sum_sources.specs.sources.SourceLog.{no_openings};
 
 use crate::fault::EILSEQ;
 use crate::sources::source_log::{Note, SourceCalls, SourceLog, next_file};
@@ -26,7 +27,7 @@ impl<R> Model for Files<R> {
 impl<R: rt::Files + Drop> Files<R> {
     /// Creates a source of this runtime's files.
     pub fn new(rt: R) -> Self
-        ensures { result ≡ no_openings }
+        ensures state { result ≡ no_openings }
     {
         Files {
             rt,
@@ -42,7 +43,8 @@ where
     type File = FromRead<R::File>;
 
     ghost use Rattle.std.specs.Prelude.{[]};
-    ghost use Rattle.sum_sources.specs.sources.{Source.no_answer, SourceLaws.untold_gives};
+    ghost use Rattle.sum_sources.specs.sources.{SourceLaws.untold_gives};
+    ghost use Rattle.sum_sources.specs.sources.SourceLog.{no_answer};
 
     ghost state = { λ s. record s { told = [] } };
 

@@ -3,7 +3,8 @@ ghost use Rattle.std.specs.Io.KnownBytes.{Consumes, ReadConsumes};
 ghost use Rattle.std.specs.Prelude.{◌≡◌, ◌≤◌, length, IfOk, IfSome, None};
 ghost use Rattle.sum_sources.specs.{Fault.Whole};
 ghost use Rattle.sum_sources.specs.system.FromRead.{FromReadValue};
-ghost use Rattle.sum_sources.specs.inputs.Input.{Ended, state_after_read, empty_reads, no_reads};
+ghost use Rattle.sum_sources.specs.inputs.Input.{Ended, state_after_read, empty_reads};
+ghost use Rattle.sum_sources.specs.inputs.InputLog.{no_reads};
 
 use crate::inputs::input_log::{InputCalls, InputLog, ReadNote};
 use crate::system::errors::fault_of;
@@ -39,7 +40,7 @@ impl<R: Read> FromRead<R> {
     /// Creates the input that reads from `reader`. An error of the reader becomes a fault by its number or, if it has
     /// none, by its kind. The 1,000th interruption in a row within one read is `Fault::Other`.
     pub fn new(reader: R) -> Self
-        ensures { result ≡ record { reader = reader; log = no_reads } }
+        ensures state { result ≡ record { reader = reader; log = no_reads } }
     {
         FromRead::with_log(reader, InputLog::of(&InputCalls))
     }

@@ -15,7 +15,7 @@ purpose Any = codes "Check checksums of tagged lines."
 abbrev pub letter_column : ByteString → ByteString
 letter_column letter = if bytes_eq letter [] then codes "      " else codes "  -" ++ letter ++ codes ", "
 
--- the line of an option in the help: its letter, its full name in 18 columns, and its text
+-- the line of an option in the help: its letter, its full name with spaces up to 18 columns, and its text
 abbrev pub help_line : Flag → ByteString
 help_line flag = let (letter, full_name, text) = row_of flag in
     let name = codes "--" ++ full_name ++ (if takes_value flag then codes "=BITS" else []) in

@@ -4,8 +4,7 @@ use Rattle.std.specs.Prelude.{ℕ, ◌==◌, not, Bool, true, false, List, [], �
 use Rattle.std.specs.Prelude.{find, bytes_eq}
 use Rattle.digest_kinds.specs.Bytes.{ByteString}
 use Rattle.sum_words.specs.{declared.parsing.options.Flag.Flag, declared.tool.Tool.Tool}
-use Rattle.sum_words.specs.{parsing.WordFault.WordFaultValue, parsing.WordFault.unknown_long}
-use Rattle.sum_words.specs.{parsing.WordFault.ambiguous_long}
+use Rattle.sum_words.specs.{parsing.WordFault.WordFaultValue}
 use Rattle.sum_words.specs.declared.tool.Tool.TheVariants as tools
 use Rattle.sum_words.specs.declared.parsing.options.Flag.TheVariants as flags
 
@@ -50,9 +49,9 @@ flags_of tool = filter (has_option tool) all_flags
 
 -- the only option of a list; a fault of this name, if the list is empty or has several
 abbrev pub only_or_fault : ByteString → List Flag → Result Flag WordFaultValue
-only_or_fault name [] = Err (unknown_long name)
+only_or_fault name [] = Err (WordFaultValue.unknown_long name)
 only_or_fault name (flag ∷ []) = Ok flag
-only_or_fault name several = Err (ambiguous_long name)
+only_or_fault name several = Err (WordFaultValue.ambiguous_long name)
 
 -- a tool's option of this full name; otherwise the only one whose full name begins with the name, or the fault
 unfoldable pub name_or_fault : Tool → ByteString → Result Flag WordFaultValue

@@ -8,10 +8,8 @@ use Rattle.digest_kinds.specs.{Bytes.ByteString, Kind.KindValue, Kind.full_kind,
 use Rattle.digest_kinds.specs.{declared.algo.Algos.Algos, declared.algo.Algos.TheVariants.One}
 use Rattle.digest_kinds.specs.{declared.algo.Algos.TheVariants.Any}
 use Rattle.sum_settings.specs.declared.{settings.Report.Report, style.Mode.Mode, style.Style.Style}
-use Rattle.sum_words.specs.parsing.WordFault.{WordFaultValue, length_invalid, length_not_bytes, tag_with_text}
-use Rattle.sum_words.specs.parsing.WordFault.{zero_with_check, tag_with_check, mode_with_check, without_check}
-use Rattle.sum_words.specs.parsing.WordFault.{check_needed}
-use Rattle.sum_words.specs.parsing.Items.{ItemValue, option, fault, a_word, items_from, option_in, value_in, operand_in}
+use Rattle.sum_words.specs.parsing.WordFault.{WordFaultValue}
+use Rattle.sum_words.specs.parsing.Items.{ItemValue, NextWord, items_from, option_in, value_in, operand_in}
 use Rattle.sum_words.specs.declared.parsing.request.Request.TheVariants.{Generate, Check, Help, Version}
 use Rattle.sum_words.specs.{Tool.algos_of, declared.parsing.options.Flag.Flag, declared.parsing.request.Request.Request}
 use Rattle.sum_words.specs.{declared.tool.Tool.Tool, parsing.Options.full_name}
@@ -27,7 +25,7 @@ has_flag flag list = list_any (λ other. bytes_eq (full_name flag) (full_name ot
 abbrev pub last_of : List Flag → Option Flag → List Flag → Option Flag
 last_of group earlier given = last_or earlier (filter (λ flag. has_flag flag group) given)
 
--- whether an option is the last given option of a group
+-- whether an option is the last given option of a group, as Text is that of `mode_flags` in `-b -t`
 abbrev pub is_last : Flag → List Flag → List Flag → Bool
 is_last flag group given = has_flag flag (option_to_list (last_of group None given))
 
@@ -49,18 +47,19 @@ report_flag reports.Status = Some flags.Status
 -- the kind that a value of --length asks for: one or more digits, whose number is at most 512 and a multiple of 8
 abbrev pub length_kind : ByteString → Result KindValue WordFaultValue
 length_kind value = let bits = digits_value 10 value in
-    if bytes_eq value [] || not (list_all is_ascii_digit value) || nat_lt 512 bits then Err (length_invalid value)
-    else ok_or (result_ok (blake2b_of_bits bits)) (length_not_bytes value)
+    if bytes_eq value [] || not (list_all is_ascii_digit value) || nat_lt 512 bits
+    then Err (WordFaultValue.length_invalid value)
+    else ok_or (result_ok (blake2b_of_bits bits)) (WordFaultValue.length_not_bytes value)
 
 -- the first fault of the given options in combination, if they have one
 abbrev pub fault_of_options : List Flag → Option WordFaultValue
 fault_of_options given = let check = has_flag flags.Check given in
-    if has_flag flags.Tag given && is_last flags.Text mode_flags given then Some tag_with_text
-    else if has_flag flags.Zero given && check then Some zero_with_check
-    else if has_flag flags.Tag given && check then Some tag_with_check
-    else if (has_flag flags.Binary given || has_flag flags.Text given) && check then Some mode_with_check
+    if has_flag flags.Tag given && is_last flags.Text mode_flags given then Some WordFaultValue.tag_with_text
+    else if has_flag flags.Zero given && check then Some WordFaultValue.zero_with_check
+    else if has_flag flags.Tag given && check then Some WordFaultValue.tag_with_check
+    else if (has_flag flags.Binary given || has_flag flags.Text given) && check then Some WordFaultValue.mode_with_check
     else if check then None
-    else option_map without_check (if has_flag flags.IgnoreMissing given then Some flags.IgnoreMissing
+    else option_map WordFaultValue.without_check (if has_flag flags.IgnoreMissing given then Some flags.IgnoreMissing
     else option_or (last_of report_flags None given) (if has_flag flags.Strict given then Some flags.Strict else None))
 
 -- the mode of lines that the given options set
@@ -83,23 +82,24 @@ request_of_options true algos kind given operands =
 request_of_options false (One algo) kind given operands =
     let style : Style = record { mode = mode_of given; zero = has_flag flags.Zero given } in
     Ok (Generate (record { kind = unwrap_or kind (full_kind algo); style = style }) operands)
-request_of_options false Any kind given operands = Err check_needed
+request_of_options false Any kind given operands = Err WordFaultValue.check_needed
 
 -- what is asked by the first item that decides alone, if there is one: a fault, --help or --version
 abbrev pub early_request : List ItemValue → Option (Result Request WordFaultValue)
 early_request [] = None
-early_request (fault wrong ∷ items) = Some (Err wrong)
-early_request (option flags.Help ∷ items) = Some (Ok Help)
-early_request (option flags.Version ∷ items) = Some (Ok Version)
+early_request (ItemValue.fault wrong ∷ items) = Some (Err wrong)
+early_request (ItemValue.option flags.Help ∷ items) = Some (Ok Help)
+early_request (ItemValue.option flags.Version ∷ items) = Some (Ok Version)
 early_request (item ∷ items) = early_request items
 
--- what a tool's words ask for. An item may decide it alone. Otherwise a fault of the last length counts first, then one
--- of the options in combination
+-- what a tool's words ask for: what an item decides alone; otherwise the fault of the last length or else that of the
+-- options in combination; otherwise what the options ask for
 abbrev pub request : Tool → List ByteString → Result Request WordFaultValue
-request tool words = let items = items_from tool words a_word in let given = filter_map option_in items in
-    let length = option_map length_kind (last_or None (filter_map value_in items)) in
-    let wrong = option_or (option_and_then result_err length) (fault_of_options given) in
-    let by_options = request_of_options (has_flag flags.Check given) (algos_of tool)
-    (option_and_then result_ok length) given
-    (filter_map operand_in items) in
+request tool words = let items = items_from tool words NextWord.a_word in
+    let given = filter_map option_in items in
+    let operands = filter_map operand_in items in
+    let kind_or_fault = option_map length_kind (last_or None (filter_map value_in items)) in
+    let kind = option_and_then result_ok kind_or_fault in
+    let wrong = option_or (option_and_then result_err kind_or_fault) (fault_of_options given) in
+    let by_options = request_of_options (has_flag flags.Check given) (algos_of tool) kind given operands in
     unwrap_or (option_or (early_request items) (option_map Err wrong)) by_options

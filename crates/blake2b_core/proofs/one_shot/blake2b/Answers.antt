@@ -13,6 +13,6 @@ returns-clause-digest c =
     let are = are_blocks m 0 (count_before_last m) c.followed_blocks-front.ensures.value in
     let from : 0 + length front ≡ length front = omega arith in
     let hash = c.state_after-h.ensures n m 0 refl are (c.initial.ensures m) ∙ ap (hash_after n m) from in
-    rw (c.from_state.ensures.value, c.compress-h.ensures)
+    rw (c.from_state.ensures.value, c.compress-h.ensures.state)
     (blake2b-from n m c.followed_blocks-front.ensures.count hash c.padded_block-last.ensures
     (take_rest m (128 * length front)) refl)

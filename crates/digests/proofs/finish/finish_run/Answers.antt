@@ -1,6 +1,7 @@
 use Rattle.std.proofs.Common.{Result, Ok, Err, refl}
 use Rattle.digest_kinds.specs.Bytes.{ByteString}
-use Rattle.sum_lines.specs.sinks.Output.{OutputState, GivesAll}
+use Rattle.sum_lines.specs.sinks.Output.{OutputState}
+use Rattle.sum_lines.specs.sinks.GivesAll.{GivesAll}
 use Rattle.digests.proofs.finish.finish_run.Goals as goal
 
 -- a line was written, or its write failed

@@ -3,8 +3,9 @@ use Rattle.std.proofs.Common.{inr, true, ap}
 use Rattle.digest_kinds.specs.Bytes.{ByteString}
 use Rattle.sum_engine.specs.{Behavior.World, Streams.StreamsState}
 use Rattle.sum_lines.specs.sinks.Sink.{SinkState}
-use Rattle.sum_sources.specs.{Fault.bad_descriptor, declared.fault.Ending.TheVariants.Broken, inputs.Input.Content}
-use Rattle.sum_sources.specs.{inputs.Input.empty_content}
+use Rattle.sum_sources.specs.{declared.fault.Ending.TheVariants.Broken, inputs.Input.Content}
+use Rattle.sum_sources.specs.inputs.Stdin.{bad_descriptor}
+use Rattle.sum_sources.specs.inputs.InputLog.{empty_content}
 use Rattle.sum_sources.specs.sources.{Source.ToldAnswer, Source.ToldAnswers, WithStdin.answer_of_both}
 use Rattle.sum_sources.specs.sources.{WithStdin.pairs_with_stdin}
 use Rattle.digests.specs.Program.{fresh_output, fresh_streams}

@@ -1,6 +1,6 @@
 use Rattle.std.proofs.Common.{Ok, [], ◌∷◌, ◌∙◌, ap, codes}
 use Rattle.sum_engine.specs.{Behavior.World, Execution.opened_names, Streams.StreamsState}
-use Rattle.sum_words.specs.Tool.{tool_called}
+use Rattle.sum_words.specs.CommandLine.{tool_called}
 use Rattle.digests_tests.proofs.WorkedExamples.{does, ran_to_end, good_run, empty_file}
 use Rattle.digests_tests.proofs.laws.command_on_e.Goals as goal
 

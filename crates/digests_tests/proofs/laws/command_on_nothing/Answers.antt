@@ -1,6 +1,6 @@
 use Rattle.std.proofs.Common.{rules, Ok, [], ◌∷◌, ◌∙◌, codes}
 use Rattle.sum_engine.specs.{Behavior.World, Execution.opened_names}
-use Rattle.sum_words.specs.Tool.{tool_called}
+use Rattle.sum_words.specs.CommandLine.{tool_called}
 use Rattle.digests_tests.proofs.WorkedExamples.{does, ran_to_end, good_run, empty_stdin}
 use Rattle.digests_tests.proofs.laws.command_on_nothing.Goals as goal
 

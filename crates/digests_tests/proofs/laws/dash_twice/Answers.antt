@@ -1,6 +1,7 @@
 use Rattle.std.proofs.Common.{[], ◌∷◌, ◌++◌, codes, refl, append_assoc}
 use Rattle.sum_engine.{proofs.BehaviorLemmas.events_extend, specs.Execution.Performs}
-use Rattle.sum_words.specs.{Tool.tool_called, declared.tool.Tool.TheVariants.Md5sum}
+use Rattle.sum_words.specs.{declared.tool.Tool.TheVariants.Md5sum}
+use Rattle.sum_words.specs.CommandLine.{tool_called}
 use Rattle.digests.specs.{Program.fresh_output}
 use Rattle.digests.specs.ToolRun.{meaning, status_of}
 use Rattle.digests_tests.proofs.WorkedExamples.{ran_to_end, dash_twice}

@@ -3,7 +3,7 @@ use Rattle.sum_engine.specs.Streams.{BothOutputs}
 use Rattle.sum_lines.specs.sinks.Sink.{SinkState}
 use Rattle.sum_sources.specs.sources.Source.{ToldAnswer, SourceState, first_answer, names_of, answer_of_first, times}
 use Rattle.sum_sources.specs.{sources.WithStdin.answers_with, sources.WithStdin.pairs_with_stdin}
-use Rattle.sum_sources.specs.{inputs.Input.empty_content}
+use Rattle.sum_sources.specs.inputs.InputLog.{empty_content}
 use Rattle.digests_tests.proofs.laws.e_in_memory.Goals as goal
 
 -- the file `e`, as the source has it
@@ -16,11 +16,12 @@ returns c = λ zero.
     let with_e : SourceState → SourceState = λ s. record s {
       told = s.told ++ record e { from = times (codes "e") (names_of s.openings) } ∷ [];
     } in
-    let added = c.in_ok-add.ensures.ok ∙ ap with_e c.new-source.ensures in
+    let added = c.in_ok-add.ensures.ok ∙ ap with_e c.new-source.ensures.state in
     let told : c.new-streams.result.inputs.told ≡ pairs_with_stdin (Some empty_content) (e ∷ []) =
-    grind (arith, c.new-inputs.ensures.state, c.new-stdin.ensures, added, c.new.ensures) in
+    grind (arith, c.new-inputs.ensures.state, c.new-stdin.ensures.state, added, c.new.ensures.state) in
     let all =
-    c.with_stdin_tells.ensures empty_content answer_of_first (e ∷ []) (first_answer (e ∷ [])) (λ name k. refl) in
+    c.with_stdin_tells.ensures.answers empty_content answer_of_first (e ∷ []) (first_answer (e ∷ []))
+    (λ name k. refl) in
     let wrote = c.command_on_e-status.ensures (answers_with empty_content (first_answer (e ∷ [])))
     (rw told all) refl zero in
     let none : c.new-streams.result.outputs.out.written ≡ [] =

@@ -17,4 +17,4 @@ returns g c =
     let (names, more, are, asked, all) = opened run.steps run.good old _ r did in
     let sum : dashes names + dashes more ≡ (if is_dash name then 1 else 0) =
     rw (← dashes-append, ← are, (kinds run.steps).0) (grind (arith, bytes_eq-Decides)) in
-    λ d. rw (c.stdin_is_taken.ensures, asked, dashes-append) (grind (arith, rw d at sum))
+    λ d. rw (c.stdin_is_taken.ensures.taken, asked, dashes-append) (grind (arith, rw d at sum))

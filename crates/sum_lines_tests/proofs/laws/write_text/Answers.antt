@@ -1,7 +1,8 @@
 use Rattle.std.proofs.Common.{◌≡◌, ◌++◌, Result, Ok, Err}
 use Rattle.std.specs.Prelude.{OnErr, OnOk, ⊤}
 use Rattle.digest_kinds.specs.Bytes.{ByteString}
-use Rattle.sum_lines.specs.sinks.Output.{Gets, GetsPrefix, GivesAll, OutputState, output_events}
+use Rattle.sum_lines.specs.sinks.Output.{Gets, OutputState, output_events}
+use Rattle.sum_lines.specs.sinks.GivesAll.{GetsPrefix, GivesAll}
 use Rattle.sum_lines_tests.proofs.laws.write_text.Goals as goal
 
 -- the events of the whole text happened

@@ -5,7 +5,7 @@ use Rattle.sum_sources_tests.proofs.callers.one_file.Goals as goal
 pub returns : goal.returns
 returns g c = λ k. grind (
   arith,
-  c.new-files.ensures,
+  c.new-files.ensures.state,
   c.in_ok-add.ensures.ok,
   c.add-2.ensures.ok,
   c.add-2.ensures.err,

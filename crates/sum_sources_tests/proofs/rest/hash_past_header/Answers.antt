@@ -9,4 +9,4 @@ returns g c =
     let size : length c.read.new.buf ≡ 3 = search rules in
     let all : c.in_ok-read.field-0 ≡ 3 = omega (arith, read.count, c.if-branch-lt3.false, size) in
     digest_past_header _ c.read.new.buf size (header_read _ _ c.read.new.buf _ c.requires.new read.reads size all)
-    c.hash_input.ensures
+    c.hash_input.ensures.hashed

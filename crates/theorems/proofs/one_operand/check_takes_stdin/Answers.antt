@@ -11,5 +11,5 @@ returns g c = λ w agrees.
     let all = check_behavior c.args.settings c.args.tool.now (world_at w old.inputs) c.args.name.now in
     let did = (rw (← c.streams.view_is, ← c.streams-inside.view_is) at c.check_one-result.ensures.behavior) w agrees in
     let opened = all_opened all all.good old _ r did in
-    rw c.stdin_is_taken.ensures (on_ok_weaker r
+    rw c.stdin_is_taken.ensures.taken (on_ok_weaker r
     (λ asked. rw asked (among (opened_names old.inputs) (names_in all))) opened)

@@ -15,7 +15,7 @@ returns g c =
     (rw (← c.streams-inside.view_is) at c.told_agree.ensures.world.1) in
     let opened = name_opened settings c.args.tool.now name x old _ c.generate_one-result.result did in
     let taken = among (opened_names old.inputs) (name ∷ []) in
-    rw c.stdin_is_taken.ensures (on_ok_weaker c.generate_one-result.result (λ asked. rw asked (
+    rw c.stdin_is_taken.ensures.taken (on_ok_weaker c.generate_one-result.result (λ asked. rw asked (
       λ some. elim (taken.0 some) [ inl before ↦ inl before | inr here ↦ inr ((only_dash name).0 here) ],
       λ some. taken.1 (elim some [ inl before ↦ inl before | inr is ↦ inr ((only_dash name).1 is) ]),
     )) opened)

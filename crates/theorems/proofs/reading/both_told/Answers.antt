@@ -5,7 +5,7 @@ use Rattle.theorems.proofs.reading.both_told.Goals as goal
 pub returns : goal.returns
 returns c = λ stdin tells told answer all. (
   answers_with stdin answer,
-  c.with_stdin_tells.ensures stdin tells told answer all,
+  c.with_stdin_tells.ensures.answers stdin tells told answer all,
   refl,
   λ k. refl,
   λ name k other. rw other refl,

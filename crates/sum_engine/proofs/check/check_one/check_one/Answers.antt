@@ -66,7 +66,7 @@ ran g c =
     let made = c.new-checker.ensures in
     let settings = c.args.settings in
     let tool = c.args.tool.now in
-    let rules = made.rules ∙ ap (rules_of settings) c.is_dash-from_stdin.ensures in
+    let rules = made.rules ∙ ap (rules_of settings) c.is_dash-from_stdin.ensures.value in
     let labels : c.new-checker.result.labels ≡ labels_of settings tool c.args.name.now =
     made.labels ∙ ap (λ shown. record { tool = tool; manifest = shown; report = settings.report })
     c.shown_name-shown.ensures in

@@ -14,7 +14,7 @@ of_tag_prefix-requires c =
 pub returns-then-digits-len-clause-parts : goal.returns-then-digits-len-clause-parts
 returns-then-digits-len-clause-parts c =
     let other = rw (c.skip_blanks-digits.ensures, c.len.ensures.value) at c.if-digits-len.true in
-    tagged-none _ _ c.requires.tag c.text_of-text.ensures c.in-Some.ensures c.in_ok-inner.ensures
+    tagged-none _ _ c.requires.tag c.text_of-text.ensures c.in-Some.ensures.prefix c.in_ok-inner.ensures
     c.in_ok-raw.ensures c.skip_blanks.ensures c.in_ok-after_prefix.ensures (λ d spelled size.
     omega (arith, two_digits _ d spelled))
 
@@ -22,8 +22,9 @@ returns-then-digits-len-clause-parts c =
 pub returns-in_err-digest-clause-parts : goal.returns-in_err-digest-clause-parts
 returns-in_err-digest-clause-parts c =
     let size = rw c.len.ensures.value at c.len.ensures in
-    rw c.from_residual-in_err-digest.ensures (tagged-none _ _ c.requires.tag c.text_of-text.ensures c.in-Some.ensures
-    c.in_ok-inner.ensures c.in_ok-raw.ensures c.skip_blanks.ensures c.in_ok-after_prefix.ensures (λ d spelled same.
+    rw c.from_residual-in_err-digest.ensures (tagged-none _ _ c.requires.tag c.text_of-text.ensures
+    c.in-Some.ensures.prefix c.in_ok-inner.ensures c.in_ok-raw.ensures c.skip_blanks.ensures
+    c.in_ok-after_prefix.ensures (λ d spelled same.
     let digits = decoded-digits _ d spelled (omega arith) (omega arith) in
     let bad = c.in_err-digest.ensures.found.1 (rw c.skip_blanks-digits.ensures digits) in cc))
 
@@ -31,23 +32,23 @@ returns-in_err-digest-clause-parts c =
 pub overflow_sub-start : goal.overflow_sub-start
 overflow_sub-start c =
     let ends = front-ends c.requires.front c.text_of-text.ensures in
-    (name_place _ _ ends c.in-Some.ensures c.in_ok-inner.ensures c.in_ok-raw.ensures).0
+    (name_place _ _ ends c.in-Some.ensures.prefix c.in_ok-inner.ensures c.in_ok-raw.ensures).0
 
 -- so is what follows the name
 pub returns-clause-within : goal.returns-clause-within
 returns-clause-within c =
     let ends = front-ends c.requires.front c.text_of-text.ensures in
-    (name_place _ _ ends c.in-Some.ensures c.in_ok-inner.ensures c.in_ok-raw.ensures).1
+    (name_place _ _ ends c.in-Some.ensures.prefix c.in_ok-inner.ensures c.in_ok-raw.ensures).1
 
 -- the parts that were found are the line's
 pub returns-clause-parts : goal.returns-clause-parts
 returns-clause-parts c =
     let ends = front-ends c.requires.front c.text_of-text.ensures in
-    let place = name_place _ _ ends c.in-Some.ensures c.in_ok-inner.ensures c.in_ok-raw.ensures in
+    let place = name_place _ _ ends c.in-Some.ensures.prefix c.in_ok-inner.ensures c.in_ok-raw.ensures in
     let few = rw c.len.ensures.value at c.if-digits-len.false in
     let size = two_digits _ c.in_ok-digest.digest c.in_ok-digest.ensures.value in
     let spelled = rw c.skip_blanks-digits.ensures at c.in_ok-digest.ensures.value in
     let some = eqb-false (length c.in_ok-raw.raw.now) 0 (sym c.is_empty.ensures ∙ c.if-is_empty.false) in
-    rw (place.2, c.requires.front.mark) (tagged-read _ _ c.requires.tag c.text_of-text.ensures c.in-Some.ensures
+    rw (place.2, c.requires.front.mark) (tagged-read _ _ c.requires.tag c.text_of-text.ensures c.in-Some.ensures.prefix
     c.in_ok-inner.ensures c.in_ok-raw.ensures c.skip_blanks.ensures c.in_ok-after_prefix.ensures spelled
     (omega (arith, size, few)) (omega (arith, some)))

@@ -17,7 +17,7 @@ close_file-requires g c =
 pub returns-clause-hashed : goal.returns-clause-hashed
 returns-clause-hashed g c =
     hashed_last g.S.Source.tells c.in_ok-file.ensures.file c.in_ok-file.ensures.state c.in_ok-found.ensures.hashed
-    c.close_file.ensures
+    c.close_file.ensures.state
 
 -- reading the file failed, so that is the fault
 failed : {kind : KindValue} {name : List ℕ} {a b : SourceState} {f : Fault} (r : Result (List ℕ) HashFault)
@@ -28,4 +28,4 @@ failed (Err e) is hashes = rw is hashes
 pub returns-in_err-found-clause-hashed : goal.returns-in_err-found-clause-hashed
 returns-in_err-found-clause-hashed g c = failed _ c.from_residual-in_err-found.ensures.1
     (hashed_last g.S.Source.tells c.in_ok-file.ensures.file c.in_ok-file.ensures.state c.in_err-found.ensures.hashed
-    c.close_file.ensures)
+    c.close_file.ensures.state)

@@ -13,4 +13,4 @@ invariant_of-self c =
     let file : InputState = record (told_state told) { name = log.name; nth = log.nth } in
     let gives = closing_gives tells_fronts (fronts_state s.text.now s.log) file _ (told_has_content told)
     c.requires.told refl s.gives in
-    record { gives = rw (c.with_note-self.ensures, c.args.file.same) gives }
+    record { gives = rw (c.with_note-self.ensures.state, c.args.file.same) gives }

@@ -6,4 +6,4 @@ pub invariant_of-self : goal.invariant_of-self
 invariant_of-self c =
     let s = c.args.self.now in
     let gives = open_gives tells_fronts (fronts_state s.text.now s.log) c.args.name.now s.gives in
-    record { gives = rw c.with_note-self.ensures gives }
+    record { gives = rw c.with_note-self.ensures.state gives }

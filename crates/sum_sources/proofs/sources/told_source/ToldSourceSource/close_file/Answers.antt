@@ -13,13 +13,13 @@ has_content (Err f) c is = cc
 
 -- the names that were opened stay
 pub invariant_of-self-clause-names : goal.invariant_of-self-clause-names
-invariant_of-self-clause-names g c = rw (c.with_note-self.ensures, names-closed) c.args.self.now.names
+invariant_of-self-clause-names g c = rw (c.with_note-self.ensures.state, names-closed) c.args.self.now.names
 
 -- what was read of the file fits its content
 pub invariant_of-self-clause-gives : goal.invariant_of-self-clause-gives
 invariant_of-self-clause-gives g c =
     let s = c.args.self.now in
     let file = told_view c.args.file in
-    rw (c.with_note-self.ensures, c.log.ensures) (closing_gives answer_of_first (state_with_pairs s.pairs.items s.log)
-    (told_state file) file.content (told_has_content file) refl
+    rw (c.with_note-self.ensures.state, c.log.ensures) (closing_gives answer_of_first
+    (state_with_pairs s.pairs.items s.log) (told_state file) file.content (told_has_content file) refl
     (ap Some (has_content _ file.content c.requires.told)) s.gives)

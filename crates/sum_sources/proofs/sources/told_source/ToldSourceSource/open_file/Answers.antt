@@ -7,7 +7,7 @@ use Rattle.sum_sources.proofs.sources.told_source.ToldSourceSource.open_file.Goa
 pub invariant_of-self-in-Fault-clause-gives : goal.invariant_of-self-in-Fault-clause-gives
 invariant_of-self-in-Fault-clause-gives g c =
     let s = c.args.self.now in
-    rw c.with_note-self-in-Fault.ensures
+    rw c.with_note-self-in-Fault.ensures.state
     (opening_gives answer_of_first (state_with_pairs s.pairs.items s.log) c.args.name.now
     (Some (Err c.in-Fault.fault)) (rw (← s.names) (search rules)) s.gives)
 
@@ -15,5 +15,5 @@ invariant_of-self-in-Fault-clause-gives g c =
 pub invariant_of-self-in-Content-clause-gives : goal.invariant_of-self-in-Content-clause-gives
 invariant_of-self-in-Content-clause-gives g c =
     let s = c.args.self.now in
-    rw c.with_note-self-in-Content.ensures
+    rw c.with_note-self-in-Content.ensures.state
     (open_gives answer_of_first (state_with_pairs s.pairs.items s.log) c.args.name.now s.gives)

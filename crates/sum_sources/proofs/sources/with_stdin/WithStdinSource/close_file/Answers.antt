@@ -13,7 +13,7 @@ invariant_of-self g c =
     let has = opened_has_content g.I.Input.state g.S.File.Input.state g.met.I.Input.has_content
     g.met.S.File.Input.has_content c.args.file.input in
     record {
-      is = rw (c.with_note-self.ensures, c.put_back.ensures) (∥∥₁_map c.args.self.now.is (λ kept.
+      is = rw (c.with_note-self.ensures.state, c.put_back.ensures.state) (∥∥₁_map c.args.self.now.is (λ kept.
           kept_back kept file.name file.nth file.reads c.in-Stdin.given dash c.requires.is_open
           (stdin_gives g.S.Source.tells c.args.self.now.log
           (g.S.Source.state c.args.self.now.source) kept file has dash c.requires)));
@@ -34,7 +34,7 @@ invariant_of-self-in-File g c =
     let file = stdin_or_file_state g.I.Input.state g.S.File.Input.state in
     let other : is_dash (file c.args.file.input).name ≡ false = c.args.file.named ∙ ap is_stdin c.in-File.is in
     record {
-      is = rw (c.with_note-self.ensures, c.close_file.ensures, c.in-File.is) (∥∥₁_map c.args.self.now.is (λ kept.
+      is = rw (c.with_note-self.ensures.state, c.close_file.ensures.state, c.in-File.is) (∥∥₁_map c.args.self.now.is (λ kept.
           kept_closing kept (g.S.File.Input.state c.in-File.file).name (g.S.File.Input.state c.in-File.file).nth
           (g.S.File.Input.state c.in-File.file).reads (rw c.in-File.is at other)));
     }
