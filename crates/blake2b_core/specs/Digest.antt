@@ -1,6 +1,6 @@
 -- The BLAKE2b digest of a message, without a key (RFC 7693, 3.3).
 use Rattle.std.specs.List.{range_with_len}
-use Rattle.std.specs.Prelude.{ℕ, ◌+◌, ◌-◌, ◌*◌, ◌/◌, ◌≤◌, true, false, List, [], ◌++◌, length, take, drop, fold}
+use Rattle.std.specs.Prelude.{ℕ, ◌+◌, ◌-◌, ◌*◌, ◌/◌, ◌≤◌, true, false, List, ◌++◌, length, take, drop, fold}
 use Rattle.std.specs.Prelude.{replicate, slice_set, flat_map}
 use Rattle.byteorder.specs.Endian.{little_bytes}
 use Rattle.blake2b_core.specs.{Bytes.ByteString, Compression.◌!◌, Compression.◌⊻◌, Compression.iv, Compression.compress}

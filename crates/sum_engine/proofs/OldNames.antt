@@ -74,7 +74,7 @@ tag_clean : {algos : Algos} {line : List ℕ} {e : Bool} {kind : KindValue} {d r
 tag_clean {line = line} {e} {kind} {raw = raw} free p =
     let front = p.blanks ++ (backslash_if e
     ++ (tag_of kind.algo ++ (p.width ++ (if p.gap then codes " (" else codes "(")))) in
-    let rest = codes ")" ++ (p.before ++ (codes "=" ++ (p.after ++ p.digits))) in
+    let rest = codes ")" ++ (p.blanks_before ++ (codes "=" ++ (p.blanks_after ++ p.digits))) in
     part_clean front raw rest line (search (rules, p.whole, append_assoc)) free
 
 -- the tail of a plain line without a carriage return has none

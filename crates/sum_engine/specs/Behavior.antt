@@ -34,7 +34,8 @@ pub data Event : Type 0 where
   open_name : ByteString → Event
   to_err to_out : OutputEvent → Event
 
--- a step, between two points at which memory may run out: at most one name is opened, then `err` is written, then `out`
+-- a step, between two points at which memory may run out: at most one name is opened, then `err` is written, then
+-- `out`. While bytes of a manifest remain before it, memory for a line may be what runs out
 pub record Step : Type 0 where
   pub names : List ByteString
   pub err : ByteString  -- a text to standard error
@@ -46,7 +47,7 @@ pub record Behavior : Type 0 where
   pub steps : List Step
   pub good : Bool
 
--- the events of a step, in their order. Each text is offered in one piece, or in pieces of 8,192 bytes
+-- the events of a step, in their order. Each text is offered in its pieces (`pieces_of`), an empty one not at all
 abbrev pub events_of : Step → List Event
 events_of step =
     map Event.open_name step.names

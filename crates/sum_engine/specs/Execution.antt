@@ -33,7 +33,8 @@ IsAtEndIf Wanted reads = (reads.phase ≢ Past) × (Wanted → reads.phase ≡ E
 abbrev pub ReadsFile : Type 0 → Opening → Type 0
 ReadsFile Wanted opening = (gave : Result Reads Fault) × (opening.gave ≡ Some gave) × IfOk gave (IsAtEndIf Wanted)
 
--- a call reads each file that it opens: to its end, if Wanted holds, and never past it
+-- a call reads each file that it opens: to its end, if Wanted holds, and never past it. What the source has in memory
+-- stays
 pub record ReadsToEndIf (Wanted : Type 0) (before after : SourceState) : Type 0 where
   pub told : after.told ≡ before.told
   pub openings : (more : List Opening) × (after.openings ≡ before.openings ++ more) × All (ReadsFile Wanted) more
@@ -74,7 +75,8 @@ pub record Happened (before after : StreamsState) (events : List Event) : Type 0
 abbrev pub streams_with_refusals : ℕ → StreamsState → StreamsState
 streams_with_refusals n state = record state { inputs = record state.inputs { refusals = n } }
 
--- memory ran out before the next step: the source was refused memory for its name, or bytes of a manifest remained
+-- memory ran out before the next step: the source was refused it for the step's name; or bytes of a manifest remained,
+-- so a line may have needed it
 pub record RunsOutOfMemory (steps : List Step) (before after : StreamsState) : Type 0 where
   pub done : List Step  -- the steps that happened
   pub next : Step  -- the one before which memory ran out

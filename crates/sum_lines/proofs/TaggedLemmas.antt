@@ -58,15 +58,15 @@ read_is_tagged {algos} {line} {p} h =
       blanks = take_while is_blank line;
       width = wide.width;
       gap = gap.0;
-      before = take_while is_blank name.0.1;
-      after = take_while is_blank digits.0;
+      blanks_before = take_while is_blank name.0.1;
+      blanks_after = take_while is_blank digits.0;
       digits = after_while is_blank digits.0;
       allowed = rw wide.is_algo found.0;
       are_blanks = prefix_passes is_blank line;
       is_width = wide.is_width;
       some = ltb-true 0 (length name.0.0) fits.1;
-      before_blanks = prefix_passes is_blank name.0.1;
-      after_blanks = prefix_passes is_blank digits.0;
+      are_before = prefix_passes is_blank name.0.1;
+      are_after = prefix_passes is_blank digits.0;
       spelled = ok_some _ digest.0 digest.1;
       size = eqb-true (length digest.0) width.0.0.len fits.0;
       whole = rw (
@@ -131,7 +131,7 @@ module _ {algos : Algos} {line : List ℕ} {e : Bool} {kind : KindValue} {d raw 
     (t : IsTagged algos line e kind d raw) where
   -- what follows the opening parenthesis in the tagged line
   abbrev pub inner_of : List ℕ
-  inner_of = raw ++ (41 ∷ (t.before ++ (61 ∷ (t.after ++ t.digits))))
+  inner_of = raw ++ (41 ∷ (t.blanks_before ++ (61 ∷ (t.blanks_after ++ t.digits))))
 
   -- the blanks and the backslash of a tagged line are passed over
   pub tagged-prefix : text line ≡ (e, tag_of kind.algo ++ (t.width ++ opening t.gap inner_of))
@@ -143,10 +143,10 @@ pub tagged_is_read : {algos : Algos} {line : List ℕ} (p : LinePartsValue)
 unfolding tagged_parts
 tagged_is_read {algos} p t =
     let digits = (decode_of-ok t.digits p.digest t.spelled).1 in
-    let value : List ℕ = t.after ++ t.digits in
-    let value_free = All-append IsNot41 t.after t.digits (free is_blank t.after refl t.after_blanks)
+    let value : List ℕ = t.blanks_after ++ t.digits in
+    let value_free = All-append IsNot41 t.blanks_after t.digits (free is_blank t.blanks_after refl t.are_after)
     (free is_hex_digit t.digits refl digits) in
-    let last = All-append IsNot41 t.before (61 ∷ value) (free is_blank t.before refl t.before_blanks)
+    let last = All-append IsNot41 t.blanks_before (61 ∷ value) (free is_blank t.blanks_before refl t.are_before)
     (All-cons IsNot41 61 value (λ e. cc) value_free) in
     let named : tag_in algos (tag_of p.kind.algo ++ (t.width ++ opening t.gap (inner_of t))) ≡ Some p.kind.algo =
     let allowed = t.allowed in grind (arith, starts-append, find-begins) in
@@ -156,9 +156,9 @@ tagged_is_read {algos} p t =
       drop_at (tag_of p.kind.algo) _ (length (tag_of p.kind.algo)) refl,
       kind_and_rest-of p.kind t.width t.gap (inner_of t) t.is_width,
       opened-at t.gap (inner_of t),
-      rsplit-at 41 p.text (t.before ++ (61 ∷ value)) last,
-      (parts-at is_blank t.before 61 value t.before_blanks refl).1,
-      rest-hex t.after t.digits t.after_blanks digits,
+      rsplit-at 41 p.text (t.blanks_before ++ (61 ∷ value)) last,
+      (parts-at is_blank t.blanks_before 61 value t.are_before refl).1,
+      rest-hex t.blanks_after t.digits t.are_after digits,
       t.spelled,
       eq-eqb (length p.digest) p.kind.len t.size,
       lt-ltb 0 (length p.text) t.some,

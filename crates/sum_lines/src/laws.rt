@@ -20,8 +20,8 @@ pub fn one_form()
     ensures form { HasOneForm }
 {}
 
-/// What is computed for a line is what the line grammar says of it: it is ignored, an entry, or bad, each if and only
-/// if the grammar says so.
+/// What is computed for a line is what the line grammar says of it: it is ignored, or an entry, each if and only if the
+/// grammar says so. So it is bad if and only if it is neither.
 pub fn parse_is_grammar()
     ensures grammar { ParsesByGrammar }
 {}

@@ -13,7 +13,7 @@ pub record Content : Type 0 where
 unfoldable pub limit : ℕ
 limit = LIMIT
 
--- a content, if it has fewer bytes than the limit; otherwise its bytes before the limit, and then a fault
+-- a content, if it has fewer bytes than the limit; otherwise its first `limit - 1` bytes, and then a fault
 abbrev pub clip : Content → Content
 clip content = if nat_lt (length content.bytes) limit then content
     else record { bytes = take (limit - 1) content.bytes; ending = Broken Other }

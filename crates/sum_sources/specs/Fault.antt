@@ -5,8 +5,8 @@ pub use Rattle.sum_sources.specs.declared.fault.{Ending.Ending, Ending.TheVarian
 pub use Rattle.sum_sources.specs.declared.fault.{Fault.Fault, Fault.TheVariants.NotFound, Fault.TheVariants.Denied}
 pub use Rattle.sum_sources.specs.declared.fault.{Fault.TheVariants.Other, Fault.TheVariants.Os}
 
--- the C library's texts of the numbers of Linux, from 0 on. A line ends with the number whose text is its first. A text
--- is empty if there is none, and for 2, 5 and 13, which are NotFound, Other and Denied
+-- the C library's texts of the numbers of Linux, from 0 on. The number at a line's end is that of its first text. A
+-- text is empty if there is none, for 0, which is no fault, and for 2, 5 and 13, which are NotFound, Other and Denied
 unfoldable pub reason_table : List ByteString
 reason_table = map codes ("" ∷ "Operation not permitted" ∷ "" ∷ "No such process" ∷ "Interrupted system call" ∷  -- 0
     "" ∷ "No such device or address" ∷ "Argument list too long" ∷ "Exec format error" ∷ "Bad file descriptor" ∷  -- 5
@@ -47,7 +47,7 @@ reason_table = map codes ("" ∷ "Operation not permitted" ∷ "" ∷ "No such p
     "Key has been revoked" ∷ "Key was rejected by service" ∷ "Owner died" ∷ "State not recoverable" ∷  -- 128
     "Operation not possible due to RF-kill" ∷ "Memory page has hardware error" ∷ [])  -- 132
 
--- the text of a number
+-- the system's text of a fault by its number (errno), or nothing
 abbrev pub reason : ℤ → ByteString
 reason (pos n) = slice_index_or reason_table n []
 reason n = []

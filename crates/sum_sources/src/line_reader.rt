@@ -93,7 +93,7 @@ impl<I: Input> LineReader<I> {
     /// Creates a reader of the lines of `input`. If the input has `LIMIT` bytes or more, its first `LIMIT - 1` bytes
     /// count, and then `Fault::Other`.
     pub fn new(input: I) -> Self
-        ensures is { result
+        ensures state { result
             ≡ record { input = input; ahead = []; taken = 0; lines = 0; final_answer = None } }
         // If the input hasn't ended: the lines of what remains of it.
         ensures reading { (I.state input).reads.phase ≡ Unfinished → IsReading I.state result }
@@ -112,7 +112,7 @@ impl<I: Input> LineReader<I> {
     /// Returns how many bytes were read from the input.
     pub fn taken(&self) -> u64
         ensures value { result ≡ self.now.taken }
-        ensures most { result ≤ LIMIT }
+        ensures at_most { result ≤ LIMIT }
     {
         self.taken
     }

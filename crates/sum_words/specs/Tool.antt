@@ -6,7 +6,7 @@ use Rattle.digest_kinds.specs.{Bytes.ByteString, declared.algo.Algos.Algos}
 use Rattle.sum_words.specs.declared.tool.Tool.{Tool}
 use Rattle.sum_words.specs.declared.tool.Tool.TheVariants as tools
 
--- the name of a tool, and the algorithms of the digests that it writes and checks
+-- the name of a tool, and the algorithms of the digests that it checks and, but for anysum, writes
 abbrev pub tool_row : Tool → ByteString × Algos
 tool_row tools.Md5sum = (codes "md5sum", One Md5)
 tool_row tools.Sha1sum = (codes "sha1sum", One Sha1)

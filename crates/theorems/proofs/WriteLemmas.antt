@@ -68,6 +68,12 @@ pub offered_all : {E : Type 0} (a b : OutputState) (text : ByteString) (r : Resu
 offered_all a b text (Ok done) h = h.0.offered
 offered_all a b text (Err fault) h = tt
 
+-- all of its bytes were written
+pub written_all : {E : Type 0} (a b : OutputState) (text : ByteString) (r : Result ⊤ E) → GivesAll a b text r
+    → OnOk r (b.written ≡ a.written ++ text)
+written_all a b text (Ok done) h = rw output_events-bytes at h.0.written
+written_all a b text (Err fault) h = tt
+
 -- after a failure, a prefix of its events was offered
 pub offered_front : {E : Type 0} (a b : OutputState) (text : ByteString) (r : Result ⊤ E) → GivesAll a b text r
     → OnErr r ((front rest : List OutputEvent) × (output_events text ≡ front ++ rest)

@@ -46,11 +46,17 @@ pub fn bytes_written<S: Sink>(sink: &mut Buffered<S>, bytes: &[u8]) -> Result<()
     put_all(sink, bytes)
 }
 
-/// A flush offers the sink all that is buffered, in one piece, and again what a write left of it. Whether it fails or
-/// not, nothing is buffered then, and the sink is flushed.
+/// A flush offers the sink all that is buffered, and again only what is left of it, and the sink has then written all
+/// of it. If a call of the sink fails, a prefix was offered so. Whether it fails or not, nothing is buffered then, and
+/// the sink is flushed.
 pub fn buffer_flushed<S: Sink>(sink: &mut Buffered<S>) -> Result<(), SinkFault>
     ensures ok { OnOk result (OffersEach sink.old.sink.output.offered sink.new.sink.output.offered
         (output_events sink.old.buffered)) }
+    ensures written { OnOk result (sink.new.sink.output.written
+        ≡ sink.old.sink.output.written ++ sink.old.buffered) }
+    ensures err { OnErr result ((front rest : List OutputEvent)
+        × (output_events sink.old.buffered ≡ front ++ rest)
+        × OffersEach sink.old.sink.output.offered sink.new.sink.output.offered front) }
     ensures flushed { (sink.new.buffered ≡ []) × IsTrue sink.new.sink.flushed }
 {
     sink.flush()
@@ -113,8 +119,8 @@ pub fn stop_written<S: Sink>(
     put_stop(sink, tool, stop)
 }
 
-/// An output offers a text piece by piece, and again exactly what a write left of a piece; nothing else. If a call of
-/// the sink fails, it has offered a prefix of this.
+/// An output offers a text piece by piece, and again only what is left of a piece; nothing else. If a call of the sink
+/// fails, it has offered a prefix of this.
 pub fn text_offered<S: Sink, T: Text>(output: &mut Output<S>, text: &T) -> Result<(), SinkFault>
     ensures ok { OnOk result
         (OffersEach output.old.offered output.new.offered (output_events (T.text text.now))) }
@@ -125,7 +131,8 @@ pub fn text_offered<S: Sink, T: Text>(output: &mut Output<S>, text: &T) -> Resul
     output.write(text)
 }
 
-/// A text of 1 to 8,192 bytes is offered in one piece, and after it only what a write left of it, which is shorter.
+/// A text of 1 to 8,192 bytes is offered in one piece, and after it only ends of it, which are shorter, if no call of
+/// the sink fails.
 pub fn short_text_offered<S: Sink, T: Text>(
     output: &mut Output<S>,
     text: &T,
@@ -152,7 +159,7 @@ pub fn capacity_is_8192()
     ensures capacity { CAPACITY ≡ 8192 }
 {}
 
-/// Between its calls an output holds nothing, and its sink is flushed: its sink wrote all that it did.
+/// Between its calls an output's sink has got what the output has, and nothing else, and is flushed.
 pub fn output_holds_nothing<S: Sink>(output: &Output<S>) -> &S
     ensures written { (S.state result.now).output ≡ output.now }
     ensures flushed { IsTrue (S.state result.now).flushed }

@@ -77,8 +77,8 @@ pub fn old_manifests_exist()
         × (parsed_content rules.algo content ≡ entry listed ∷ []) }
 {}
 
-/// Older versions escaped no carriage return in a name, kept one at a line's end, and found an empty line improperly
-/// formatted.
+/// Older versions took an empty line for improperly formatted. By an example each: they escaped no carriage return in a
+/// name, and kept one at a line's end.
 pub fn older_versions_differ()
     ensures escape { older_escape (codes "\r") ≡ codes "\r" }
     ensures line { raw_lines (record { bytes = codes "a\r\n"; ending = Whole }) ≡ codes "a\r" ∷ [] }
@@ -88,7 +88,7 @@ pub fn older_versions_differ()
     old_verdicts();
 }
 
-/// Older versions wrote a name with a carriage return as it was: in the reports of lines on standard output and on
+/// Older versions wrote the name that is a carriage return as it was: in the reports of lines on standard output and on
 /// standard error, and at the end of the manifest with that name.
 pub fn older_texts()
     ensures out { (rules : CheckRules) (content : Content) → let cr = codes "\r" in
@@ -116,7 +116,8 @@ pub fn older_texts()
         err_text (older_behavior rules labels content []) ≡ codes "md5sum: \r: Input/output error\n" }
 {}
 
-/// Now a carriage return in a name is escaped as `\r`, one at a line's end is dropped, and an empty line is ignored.
+/// Now an empty line is ignored. By an example each: a carriage return in a name is escaped as `\r`, and one at a
+/// line's end is dropped.
 pub fn the_profile_is_2()
     ensures escape { escape (codes "\r") ≡ codes "\\r" }
     ensures line { lines_in (record { bytes = codes "a\r\n"; ending = Whole }) ≡ codes "a" ∷ [] }

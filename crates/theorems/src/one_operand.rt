@@ -44,22 +44,25 @@ use sum_sources::laws::stdin_is_taken;
 use sum_sources::{Input, LineStop, Source, WithStdin};
 
 /// `generate_one` writes the texts that hashing its name means, and returns whether the file was hashed. Or it stops,
-/// and each output got a prefix of its text.
+/// and each output got a prefix of its text: a single prefix of what was to happen, the opening of the name with it.
 pub fn name_hashed<S: Source, O: Sink, E: Sink>(
     settings: &Settings,
     tool: &str,
     name: &[u8],
     streams: &mut Streams<S, O, E>,
 ) -> Result<bool, Stop>
-    ensures { (w : World) → Agrees w streams.new.inputs → let all =
+    ensures texts { (w : World) → Agrees w streams.new.inputs → let all =
         generate_behavior settings.now tool.now (world_at w streams.old.inputs) name.now in
         WritesTexts all all.good streams.old streams.new result }
+    ensures one_prefix { (w : World) → Agrees w streams.new.inputs → let all =
+        generate_behavior settings.now tool.now (world_at w streams.old.inputs) name.now in
+        PerformsSteps all.steps all.good streams.old streams.new result }
 {
     generate_one(settings, tool, name, streams)
 }
 
 /// `check_one` writes the texts that checking its manifest means, and returns whether it is good. Or it stops, and each
-/// output got a prefix of its text.
+/// output got a prefix of its text: a single prefix of what was to happen, the openings with it.
 pub fn manifest_checked<A: Allocator + Copy, S: Source, O: Sink, E: Sink>(
     alloc: A,
     settings: CheckSettings,
@@ -67,15 +70,18 @@ pub fn manifest_checked<A: Allocator + Copy, S: Source, O: Sink, E: Sink>(
     name: &[u8],
     streams: &mut Streams<S, O, E>,
 ) -> Result<bool, Stop>
-    ensures { (w : World) → Agrees w streams.new.inputs → let all =
+    ensures texts { (w : World) → Agrees w streams.new.inputs → let all =
         check_behavior settings tool.now (world_at w streams.old.inputs) name.now in
         WritesTexts all all.good streams.old streams.new result }
+    ensures one_prefix { (w : World) → Agrees w streams.new.inputs → let all =
+        check_behavior settings tool.now (world_at w streams.old.inputs) name.now in
+        PerformsSteps all.steps all.good streams.old streams.new result }
 {
     check_one(alloc, settings, tool, name, streams)
 }
 
-/// `generate_one` returns true only if it read the file to its end. Whatever it returns, it read no file past its end
-/// or its fault, and closed each that it opened. Without a stop it opened one file, that of the name.
+/// `generate_one` returns true only if it read each file that it opened to its end. Whatever it returns, it read none
+/// past its end or its fault, and closed each. Without a stop it opened one name, its own.
 pub fn hashed_name_read<S: Source, O: Sink, E: Sink>(
     settings: &Settings,
     tool: &str,
@@ -91,9 +97,9 @@ pub fn hashed_name_read<S: Source, O: Sink, E: Sink>(
     result
 }
 
-/// `check_one` returns true only if it read the manifest, and each file that it opened, to the end. Whatever it
-/// returns, it read none past its end or its fault, and closed each. It opened what the check mentions, in this order;
-/// after a stop, the first of these.
+/// `check_one` returns true only if it read each file that it opened to its end. Whatever it returns, it read none past
+/// its end or its fault, and closed each. It opened what the check mentions, first the manifest, in this order; after a
+/// stop, the first of these.
 pub fn good_manifest_read<A: Allocator + Copy, S: Source, O: Sink, E: Sink>(
     alloc: A,
     settings: CheckSettings,
@@ -151,8 +157,8 @@ pub fn check_takes_stdin<'a, A: Allocator + Copy, I: Input + Drop, S: Source, O:
     (result, inputs)
 }
 
-/// After a stop of `check_one`, at most 8,192 bytes of the manifest past the line at which it came were read. The steps
-/// before that one happened.
+/// After a stop of `check_one`, there is a line before which all steps happened and at which a step can have stopped
+/// so, and at most 8,192 bytes of the manifest past it were read.
 pub fn stopped_near_line<A: Allocator + Copy, S: Source, O: Sink, E: Sink>(
     alloc: A,
     settings: CheckSettings,
@@ -192,8 +198,8 @@ pub fn step_performed<A: Allocator, I: Input, S: Source, O: Sink, E: Sink>(
     checker.step(line, streams)
 }
 
-/// A step that returns `Going` has found the verdict of one line: it opened the line's name, unless the line is ignored
-/// or bad, counted the verdict, and wrote its report.
+/// A step that returns `Going` has handled one verdict: it opened the name of its line, unless the line is ignored or
+/// bad, counted the verdict, and wrote its report.
 pub fn line_reported<A: Allocator, I: Input, S: Source, O: Sink, E: Sink>(
     checker: &mut Checker<I>,
     line: &mut Vec<u8, A>,
@@ -240,8 +246,8 @@ pub fn step_read<A: Allocator, I: Input, S: Source, O: Sink, E: Sink>(
     checker.step(line, streams)
 }
 
-/// The verdicts `Right` and `Wrong` are returned only if one file was opened, that of the line's name, and was read to
-/// its end.
+/// The verdicts `Right` and `Wrong` are returned only if one name was opened, that of the line, and each file that was
+/// opened was read to its end.
 pub fn judged_file_read<A: Allocator, I: Input, S: Source>(
     verdicts: &mut Verdicts<I>,
     line: &mut Vec<u8, A>,
@@ -256,9 +262,9 @@ pub fn judged_file_read<A: Allocator, I: Input, S: Source>(
     verdicts.next(line, inputs)
 }
 
-/// After k steps of a checker that each handled a line, all lines but the first k remain. Each output has grown by the
-/// reports of these k lines, and their names were opened. At most 8,192 bytes past line k were read, and no vector
-/// holds more bytes than its line.
+/// After k steps of a checker that each handled a line, k fewer lines remain. Each output has grown by the reports of
+/// the first k lines, and their names were opened. At most 8,192 bytes past line k were read, and no vector holds more
+/// bytes than its line.
 pub fn steps_so_far()
     ensures { (rules : CheckRules) (labels : LabelsValue) (content : Content) (world : World)
         (state : CheckState) (before after : StreamsState) (vectors : List ByteString)

@@ -69,6 +69,7 @@ pub fn no_tool_performed<A: Allocator + Copy, G: Arguments, S: Source, O: Sink, 
 }
 
 /// If the arguments are in memory, and all answers of the source are told, `command` does what the list means by them.
+/// If the list needs memory, its words may instead not be read.
 pub fn told_command_performed<A: Allocator + Copy, G: Arguments, S: Source, O: Sink, E: Sink>(
     alloc: A,
     arguments: &mut G,
@@ -87,8 +88,8 @@ pub fn told_command_performed<A: Allocator + Copy, G: Arguments, S: Source, O: S
 }
 
 /// `command` writes exactly the bytes, and returns exactly the status, that the words mean. Or it stops with status 1,
-/// a prefix of each text, and on standard error a prefix of the line for the stop: if a write failed; or before a step,
-/// if memory ran out, as `run` does. Or the words weren't read, which is possible only if they need memory.
+/// a prefix of each text, and on standard error a prefix of the line for the stop: if a write failed; or if memory ran
+/// out, by the cause that `run` has. Or the words weren't read, which is possible only if they need memory.
 pub fn command_written<A: Allocator + Copy, G: Arguments, S: Source, O: Sink, E: Sink>(
     alloc: A,
     arguments: &mut G,

@@ -1,14 +1,14 @@
 //! Reading: inputs, files and lines, up to their end; and standard input beside files.
 ghost use Rattle.digest_kinds.specs.{Bytes.ByteString, Bytes.LIMIT, Kind.message_digest};
 ghost use Rattle.std.specs.Prelude.{◌≡◌, ◌≢◌, ◌↔◌, ◌<◌, ◌∷◌, ◌++◌, [], Some, Ok, Err, IfOk, IfSome, codes};
-ghost use Rattle.std.specs.Prelude.{◌≤◌, ◌^◌, IsTrue, List, ℕ, false, suc, take};
+ghost use Rattle.std.specs.Prelude.{◌≤◌, ◌^◌, IsTrue, List, ℕ, false, length, suc, take};
 ghost use Rattle.sum_engine.specs.{Behavior.World, Execution.Agrees};
 ghost use Rattle.sum_sources.specs.LineReader.{IsReading, reads_of, remaining_content};
 ghost use Rattle.sum_sources.specs.{declared.fault.Fault.Fault as FaultValue};
 ghost use Rattle.sum_sources.specs.{Content.limit, LineReader.lines_in, declared.inputs.input.TheConstants.PIECE};
 ghost use Rattle.sum_sources.specs.declared.fault.Ending.{Ending as EndingValue, TheVariants.Whole, TheVariants.Broken};
 ghost use Rattle.sum_sources.specs.declared.inputs.input.Phase.TheVariants.{Unfinished, Ended, Past};
-ghost use Rattle.sum_sources.specs.inputs.Input.{Content, Fits, Reads, clip, empty_reads};
+ghost use Rattle.sum_sources.specs.inputs.Input.{Content, Fits, Reads, clip, empty_reads, reads_past};
 ghost use Rattle.sum_sources.specs.inputs.InputLog.{empty_content, no_reads};
 ghost use Rattle.sum_sources.specs.{inputs.Stdin.closable_state, inputs.Stdin.is_untaken};
 ghost use Rattle.sum_sources.specs.inputs.Stdin.{bad_descriptor};
@@ -41,6 +41,21 @@ pub fn input_hashed<I: Input, H: Hasher + Drop>(input: &mut I, hasher: H) -> Res
         ↔ (result ≡ Ok (message_digest (H.kind_of hasher) (clip content).bytes)) }
     ensures fault { (content : Content) → Fits (I.state input.new).reads content
         → (fault : FaultValue) → ((clip content).ending ≡ Broken fault) ↔ (result ≡ Err fault) }
+{
+    hash_input(input, hasher)
+}
+
+/// The same of an input that was read before, but not to its end or a fault, and of the content that was left.
+pub fn rest_hashed<I: Input, H: Hasher + Drop>(input: &mut I, hasher: H) -> Result<Digest, Fault>
+    requires unfinished { (I.state input.old).reads.phase ≡ Unfinished }
+    requires hasher { H.holds hasher [] }
+    ensures digest { (left : Content) → Fits
+        (reads_past (length (I.state input.old).reads.bytes) (I.state input.new).reads) left
+        → ((clip left).ending ≡ Whole)
+        ↔ (result ≡ Ok (message_digest (H.kind_of hasher) (clip left).bytes)) }
+    ensures fault { (left : Content) → Fits
+        (reads_past (length (I.state input.old).reads.bytes) (I.state input.new).reads) left
+        → (fault : FaultValue) → ((clip left).ending ≡ Broken fault) ↔ (result ≡ Err fault) }
 {
     hash_input(input, hasher)
 }
@@ -86,8 +101,7 @@ pub fn fault_of_opening<S: Source, H: Hasher + Drop>(
     hash_file(source, name, hasher)
 }
 
-/// A new reader has read nothing: all of the content remains, as far as the limit allows. The premise: the input hasn't
-/// ended.
+/// Before a new reader all of the content remains, as far as the limit allows. The premise: the input hasn't ended.
 pub fn lines_begin<I: Input>(input: I) -> LineReader<I>
     requires { (I.state input).reads.phase ≡ Unfinished }
     ensures reading { IsReading I.state result }

@@ -47,7 +47,7 @@ pub fn check_begins<'a, I: Input>(
 }
 
 /// Each call of `step` is a step of the check: for each content that fits what was read of the manifest, in each world
-/// that agrees. So k calls that each return `Going` are the k steps of the next two theorems.
+/// that agrees. The theorems `steps_so_far` and `last_step` are about such steps, one after another.
 pub fn step_taken<A: Allocator, I: Input, S: Source, O: Sink, E: Sink>(
     checker: &mut Checker<I>,
     line: &mut Vec<u8, A>,
@@ -95,8 +95,8 @@ pub fn line_handled<A: Allocator, I: Input, S: Source, O: Sink, E: Sink>(
     checker.step(line, streams)
 }
 
-/// Whatever a step returns, at most 8,192 bytes past the lines that it has handled were read. If it runs out of memory,
-/// at most as many past the line that it was to handle.
+/// Whatever a step returns, at most 8,192 bytes past the consumed ones were read. If it runs out of memory, at most as
+/// many past the line that it was to handle.
 pub fn step_reads_near_line<A: Allocator, I: Input, S: Source, O: Sink, E: Sink>(
     checker: &mut Checker<I>,
     line: &mut Vec<u8, A>,

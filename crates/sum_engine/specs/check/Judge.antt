@@ -42,7 +42,7 @@ abbrev pub verdict_of_file : ByteString → Result ByteString Fault → Verdict
 verdict_of_file listed (Ok digest) = if bytes_eq digest listed then Right else Wrong
 verdict_of_file listed (Err fault) = Unread fault
 
--- the verdict of an entry
+-- the verdict of an entry. In a manifest from standard input the name `-` is bad, and isn't opened
 abbrev pub judge : CheckRules → World → EntryValue → Verdict
 judge rules world listed = let answer = answer_to world listed.name in
     if rules.from_stdin && is_dash listed.name then Bad

@@ -16,7 +16,7 @@ IsRawName Undecided tail raw = ⊥
 IsRawName Reversed tail raw = raw ≡ tail
 IsRawName Standard tail raw = IsTrue (begins_standard tail) × (b : ℕ) × (tail ≡ b ∷ raw)
 
--- an entry, as `Reading::Entry` has it: a digest of that kind, and the name of the file that has it
+-- an entry: a digest of that kind, and the name of the file that has it
 pub record EntryValue : Type 0 where
   pub kind : KindValue
   pub digest : ByteString

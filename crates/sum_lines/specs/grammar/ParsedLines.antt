@@ -1,4 +1,5 @@
--- How a line parses, computed. It need not be believed: by the law `parse_is_grammar` it is what the line grammar says.
+-- What a line says, and how it parses, computed. The latter need not be believed: by the law `parse_is_grammar` it is
+-- what the line grammar says.
 use Rattle.std.specs.Prelude.{◌≡◌, ◌≤◌, ◌==◌, ◌∷◌, length, drop, slice_range, nat_lt, bytes_eq, ⊤, Option, None, Some}
 use Rattle.std.specs.Prelude.{if◌then◌else◌}
 use Rattle.std.specs.{Option.option_or, Option.option_map_or, List.list_all, Str.byte}

@@ -43,17 +43,17 @@ pub record IsTagged (algos : Algos) (line : ByteString) (escaped : Bool) (kind :
   pub blanks : ByteString
   pub width : ByteString
   pub gap : Bool  -- whether a space precedes the parenthesis
-  pub before : ByteString  -- the blanks before `=`
-  pub after : ByteString  -- those after it
+  pub blanks_before : ByteString  -- those before `=`
+  pub blanks_after : ByteString  -- those after it
   pub digits : ByteString
   pub allowed : Allows algos kind.algo
   pub are_blanks : AllPass is_blank blanks
   pub is_width : IsWidth kind width
   pub some : 0 < length raw
-  pub before_blanks : AllPass is_blank before
-  pub after_blanks : AllPass is_blank after
+  pub are_before : AllPass is_blank blanks_before
+  pub are_after : AllPass is_blank blanks_after
   pub spelled : decode_of digits ≡ Ok digest
   pub size : length digest ≡ kind.len
   pub whole : line ≡ blanks ++ (backslash_if escaped
       ++ (tag_of kind.algo ++ (width ++ ((if gap then codes " (" else codes "(")
-      ++ (raw ++ (codes ")" ++ (before ++ (codes "=" ++ (after ++ digits)))))))))
+      ++ (raw ++ (codes ")" ++ (blanks_before ++ (codes "=" ++ (blanks_after ++ digits)))))))))

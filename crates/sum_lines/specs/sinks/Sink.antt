@@ -3,7 +3,8 @@ use Rattle.std.specs.Prelude.{ℕ, Bool, true, false, ◌≡◌, ◌<◌, ◌≤
 use Rattle.digest_kinds.specs.Bytes.{ByteString}
 use Rattle.sum_lines.specs.sinks.Output.{OutputState}
 
--- a sink's state: what it got, and whether it is flushed, as before its first call, after a flush, and after a failure
+-- a sink's state: what it got, and whether it is flushed, as before its first call, after a flush, and after a failure,
+-- with which it loses what it held
 pub record SinkState : Type 0 where
   pub output : OutputState
   pub flushed : Bool

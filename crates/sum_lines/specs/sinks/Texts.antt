@@ -4,7 +4,8 @@ use Rattle.std.specs.Prelude.{ℕ, ◌+◌, ◌-◌, ◌/◌, List, [], ◌∷�
 use Rattle.std.specs.Simd.{first_chunks}
 use Rattle.digest_kinds.specs.Bytes.{ByteString}
 
--- the pieces of a text: `CAPACITY` bytes each, and what is left; so a text of at most that many bytes is one piece
+-- the pieces of a text: `CAPACITY` bytes each, and what is left. So a text of at most that many bytes is one piece, and
+-- the empty text is none
 abbrev pub pieces_of : ByteString → List ByteString
 pieces_of text = first_chunks CAPACITY ((length text + (CAPACITY - 1)) / CAPACITY) text
 

@@ -57,7 +57,7 @@ impl<I: Input, S: Source> WithStdin<I, S> {
 
     /// Returns the source of files.
     pub fn source(&self) -> &S
-        ensures is { result.now ≡ source_in self.now }
+        ensures source { result.now ≡ source_in self.now }
         // Each name but `-` was opened in it, in this order.
         ensures others { other_openings (S.state result.now).openings
             ≡ other_openings (both_state self.now).openings }
@@ -87,7 +87,8 @@ impl<I: Input + Drop, S: Source> Source for WithStdin<I, S> {
     ghost use Rattle.sum_sources.specs.sources.{Opened.opened_state, Opened.input_in, WithStdin.TakesStdin};
     ghost use Rattle.sum_sources.specs.sources.Source.{state_after_opening, opened_file};
 
-    /// Opens the name: `-` gives what [`Stdin::take`] gives, and any other name is opened in the source.
+    /// Opens the name: `-` gives what taking standard input gives, without a fault, and any other name is opened in the
+    /// source.
     fn open_file(&mut self, name: &[u8]) -> Result<Opened<I, S::File>, OpenFault>
         ensures state { both_state self.new ≡ state_after_opening (both_state self.old) name.now result }
         ensures file { IfOk result (λ file. opened_state file

@@ -51,7 +51,7 @@ length_kind value = let bits = digits_value 10 value in
     then Err (WordFaultValue.length_invalid value)
     else ok_or (result_ok (blake2b_of_bits bits)) (WordFaultValue.length_not_bytes value)
 
--- the first fault of the given options in combination, if they have one
+-- the first of these faults that the given options have in combination; without `--check`, an option that needs it
 abbrev pub fault_of_options : List Flag → Option WordFaultValue
 fault_of_options given = let check = has_flag flags.Check given in
     if has_flag flags.Tag given && is_last flags.Text mode_flags given then Some WordFaultValue.tag_with_text

@@ -6,7 +6,8 @@ use Rattle.sum_words.specs.declared.parsing.{word_fault.WordFault.WordFault}
 use Rattle.sum_words.specs.declared.parsing.options.Flag.TheVariants as flags
 use Rattle.sum_words.specs.declared.parsing.word_fault.WordFault.TheVariants as word_faults
 
--- a fault of the words, with what its text shows: a name of an option, an option, a value, a word, a spelling, a letter
+-- a fault of the words, with what its text shows: a name of an option, an option, a value, a word, a spelling, a
+-- letter. `wording` has the text of each
 pub data WordFaultValue : Type 0 where
   unknown_long ambiguous_long value_not_allowed : ByteString → WordFaultValue
   without_check : Flag → WordFaultValue

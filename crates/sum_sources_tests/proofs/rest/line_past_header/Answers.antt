@@ -10,4 +10,4 @@ returns-in-Ok-Line g c =
     let at = header_read _ _ c.read.new.buf _ c.requires c.in-Ok-eq3.ensures.reads size all in
     let next = rw c.in-Ok-Line.field-0-is at c.in-Ok-Line.ensures in
     line_past_header {state = g.I.Input.state} _ _ (ap (λ r. r.phase) at, ap (λ r. length r.bytes) at ∙ size)
-    c.new-reader.ensures.is c.new-reader.ensures.reading next.line next.reader
+    c.new-reader.ensures.state c.new-reader.ensures.reading next.line next.reader

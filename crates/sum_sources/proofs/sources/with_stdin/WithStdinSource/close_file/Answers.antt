@@ -34,7 +34,8 @@ invariant_of-self-in-File g c =
     let file = stdin_or_file_state g.I.Input.state g.S.File.Input.state in
     let other : is_dash (file c.args.file.input).name ≡ false = c.args.file.named ∙ ap is_stdin c.in-File.is in
     record {
-      is = rw (c.with_note-self.ensures.state, c.close_file.ensures.state, c.in-File.is) (∥∥₁_map c.args.self.now.is (λ kept.
+      is = rw (c.with_note-self.ensures.state, c.close_file.ensures.state, c.in-File.is)
+          (∥∥₁_map c.args.self.now.is (λ kept.
           kept_closing kept (g.S.File.Input.state c.in-File.file).name (g.S.File.Input.state c.in-File.file).nth
           (g.S.File.Input.state c.in-File.file).reads (rw c.in-File.is at other)));
     }
